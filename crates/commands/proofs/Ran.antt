@@ -32,6 +32,15 @@ pub record IsGood (bytes : List ℕ) (s : Source) : Type 0 where
   pub graph : HasGoodGraph s.program
   pub verified : IsVerified s.program (shapes_of_maps s.registry.maps) s.ctx_len
 
+-- the same source with the maps that were handed on
+abbrev pub with_maps : Source → RegistryView → Source
+with_maps s maps = record { program = s.program; registry = maps; ctx_len = s.ctx_len }
+
+pub handed_on : (bytes : List ℕ) (s : Source) (maps : RegistryView) → maps ≡ s.registry → IsSourceOf bytes s → HasGoodGraph s.program →
+    IsVerified s.program (shapes_of_maps s.registry.maps) s.ctx_len → IsGood bytes (with_maps s maps)
+handed_on bytes s maps same is graph verified =
+    subst (λ (r : RegistryView). IsGood bytes (with_maps s r)) (sym same) (record { is = is; graph = graph; verified = verified })
+
 -- a run of the verified program is one of the file's
 pub of_source : (single : SingleRun) (s : Source) (program : List Insn) (events : List Event) (items : List ℕ)
     (outcome : RunEnd) (tells : Bool) (steps : List ℕ) (last : WorldView) → program ≡ s.program →

@@ -10,14 +10,14 @@ ghost use Rattle.commands.specs.Checking.{RefusesText, WritesAcceptedText, Refus
 
 use crate::asm_text::report_text_fault;
 use crate::json::write_accepted as write_json;
-use crate::refusal::CommandRefusal;
-use crate::report::{MadeOf, Telling, out_of_memory, report_in_form};
+use crate::refusal::Refused;
+use crate::report::{Given, Telling, out_of_memory, report_in_form};
 use crate::source_text::{SourceText, source_of};
 use crate::streams::{read_failed_in_words, write_status};
 use command_words::Checking;
-use program_files::{Accepted, FileBytes, Verdict, check, check_source, read_file, read_text};
+use program_files::{Accepted, FileBytes, RefusedFile, check, check_source, read_file, read_text};
 use program_texts::{Assembled, assemble_text};
-use std::alloc::{AllocError, Global};
+use std::alloc::Global;
 use std::io;
 use std::io::{Read, Write};
 use verifier_log::write_log;
@@ -76,9 +76,16 @@ fn check_file<W: Write, E: Write>(
     }
     match check(alloc, file) {
         Ok(accepted) => write_status(err, write_accepted(how.json, out, &accepted)),
-        Err(verdict) => {
-            let refusal = CommandRefusal::File(verdict);
-            report_in_form(alloc, file, None, refusal, telling_of(how), out, err)
+        Err(refused) => {
+            let refused = Refused::from(refused);
+            report_in_form(
+                alloc,
+                Given::File(file),
+                &refused,
+                telling_of(how),
+                out,
+                err,
+            )
         }
     }
 }
@@ -104,45 +111,30 @@ fn check_program_file<R: Read, W: Write, E: Write>(
     }
 }
 
-/// The program file that a text makes of which this was read, where words about it are asked for; else an empty one. It is
-/// for words alone.
-fn file_for_words(alloc: Global, how: &Checking, read: &[u8]) -> Result<FileBytes, AllocError> {
-    if !how.explain {
-        return Ok(FileBytes::Whole(Vec::new(alloc)));
-    }
-    let Ok(made) = assemble_text(alloc, read) else {
-        return Err(AllocError);
-    };
-    Ok(FileBytes::Whole(made.file(alloc)?))
-}
-
 /// Tells why the program of a text, whose plain lines these are, is refused.
 fn report_made<W: Write, E: Write>(
     alloc: Global,
     how: &Checking,
     source: &SourceText,
     lines: &[u8],
-    verdict: Verdict,
+    refused: RefusedFile,
     out: &mut W,
     err: &mut E,
 ) -> u8
     ensures status { (result ≡ 1) ⊎ (result ≡ 3) }
-    ensures memory { verdict_number verdict ≡ memory_number → result ≡ 3 }
-    ensures told { result ≡ 1 → TellsVerdict how.now.json (FileRefusal verdict) (W.contents out.old) (W.contents out.new) }
+    ensures memory { verdict_number refused.verdict ≡ memory_number → result ≡ 3 }
+    ensures told { result ≡ 1 → TellsVerdict how.now.json (FileRefusal refused.verdict) (W.contents out.old) (W.contents out.new) }
     ensures silent { result ≡ 1 → how.now.json ≡ false → out.new ≡ out.old }
 {
     let Ok(lines) = source.lines_of(alloc, lines) else {
         return out_of_memory(err, how.explain);
     };
-    let Ok(file) = file_for_words(alloc, how, &source.read) else {
-        return out_of_memory(err, how.explain);
-    };
-    let text = MadeOf {
+    let given = Given::Text {
         text: &source.fed,
         lines: &lines,
     };
-    let refusal = CommandRefusal::File(verdict);
-    report_in_form(alloc, &file, Some(text), refusal, telling_of(how), out, err)
+    let refused = Refused::from(refused);
+    report_in_form(alloc, given, &refused, telling_of(how), out, err)
 }
 
 /// Writes what the verifier knows of a text's program, where that is asked for.
@@ -175,7 +167,7 @@ fn check_made<W: Write, E: Write>(
     log_made(alloc, how, &made, err);
     match check_source(alloc, made.head.source(made.program)) {
         Ok(accepted) => write_status(err, write_accepted(how.json, out, &accepted)),
-        Err(verdict) => report_made(alloc, how, source, &made.lines, verdict, out, err),
+        Err(refused) => report_made(alloc, how, source, &made.lines, refused, out, err),
     }
 }
 

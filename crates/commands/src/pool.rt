@@ -13,13 +13,15 @@ ghost use Rattle.commands.specs.Pools.{entries_line, IsProgramOf, IsRefusedByPoo
 
 use crate::contexts::{contexts_for, write_contexts_fault};
 use crate::meanings::meaning_of_refusal;
-use crate::refusal::CommandRefusal;
-use crate::report::{out_of_memory, report_line, report_refusal, write_number};
+use crate::refusal::{CommandRefusal, Refused};
+use crate::report::{Given, out_of_memory, report_line, report_refusal, write_number};
 use crate::streams::{read_failed_in_words, write_status};
 use bpf_model::{EventRefusal, MAX_JOURNAL};
 use command_words::ContextsFile;
 use explanations::write_meaning;
-use program_files::{ContextsFault, FileBytes, Verdict, read_file, verify_for_maps};
+use program_files::{
+    ContextsFault, FileBytes, RefusedFile, VerifiedSource, read_file, verify_source,
+};
 use std::alloc::Global;
 use std::io;
 use std::io::{Read, Write};
@@ -35,20 +37,18 @@ pub struct PoolSize {
 }
 
 /// Decodes and verifies a file's program.
-fn program_of(alloc: Global, file: &FileBytes) -> Result<ProgramWithMaps, Verdict>
+fn program_of(alloc: Global, file: &FileBytes) -> Result<ProgramWithMaps, RefusedFile>
     ensures new_maps { IfOk result (λ p. AreNewMaps p.registry.maps) }
     ensures shapes { IfOk result (λ p. p.verified.shapes ≡ shapes_of_maps p.registry.maps) }
     ensures found { (bytes : List ℕ) → HoldsBytes file.now bytes →
         IfOk result (λ p. IsProgramOf bytes p.verified.program p.verified.shapes p.verified.ctx_len) }
     ensures refused { (bytes : List ℕ) → HoldsBytes file.now bytes →
-        IfErr result (IsCheckedRefusal bytes) }
+        IfErr result (λ r. IsCheckedRefusal bytes r.verdict) }
 {
     let source = file.source(alloc)?;
-    let verified = verify_for_maps(alloc, source.program, &source.registry, source.ctx_len)?;
-    Ok(ProgramWithMaps {
-        verified,
-        registry: source.registry,
-    })
+    let opened = verify_source(alloc, source)?;
+    let VerifiedSource { verified, registry } = opened;
+    Ok(ProgramWithMaps { verified, registry })
 }
 
 /// Writes how many entries the journal has.
@@ -143,8 +143,9 @@ pub fn run_pool<H: Threads + Wait + Sync, R: Read, W: Write, E: Write>(
     };
     let program = match program_of(alloc, &file) {
         Ok(program) => program,
-        Err(verdict) => {
-            return report_refusal(alloc, &file, CommandRefusal::File(verdict), in_words, err);
+        Err(refused) => {
+            let refused = Refused::from(refused);
+            return report_refusal(alloc, Given::File(&file), &refused, in_words, err);
         }
     };
     let len = program.verified.ctx_len();

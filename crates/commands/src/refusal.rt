@@ -1,13 +1,11 @@
 //! Why a command refuses its input.
 ghost use Rattle.std.specs.Prelude.{◌≡◌, Decides};
-ghost use Rattle.program_files.specs.declared.verdict.Verdict.TheVariants.{Program};
 ghost use Rattle.program_files.specs.Verdicts.{memory_number};
 ghost use Rattle.commands.specs.declared.refusal.CommandRefusal.TheVariants.{File};
 
 use bpf_model::EventRefusal;
 use job_queue::PoolFault;
-use program_files::Verdict;
-use verifier::ProgramRefusal;
+use program_files::{RefusedFile, RefusedProgram, Verdict};
 
 /// Why a command refuses its input, by what is wrong.
 #[derive(Clone, Copy, Debug, PartialEq, Eq)]
@@ -65,18 +63,39 @@ impl CommandRefusal {
     }
 }
 
-impl From<Verdict> for CommandRefusal {
-    ghost from_gives = { λ verdict r. r ≡ File verdict };
+/// Why a command refuses its input, and the program where the verifier refuses that.
+#[derive(Drop)]
+pub struct Refused {
+    pub refusal: CommandRefusal,
+    pub program: Option<RefusedProgram>,
+}
 
-    fn from(verdict: Verdict) -> CommandRefusal {
-        CommandRefusal::File(verdict)
+impl From<CommandRefusal> for Refused {
+    ghost from_gives = { λ refusal r. r.refusal ≡ refusal };
+
+    fn from(refusal: CommandRefusal) -> Refused {
+        Refused {
+            refusal,
+            program: None,
+        }
     }
 }
 
-impl From<ProgramRefusal> for CommandRefusal {
-    ghost from_gives = { λ refusal r. r ≡ File (Program refusal) };
+impl From<Verdict> for Refused {
+    ghost from_gives = { λ verdict r. r.refusal ≡ File verdict };
 
-    fn from(refusal: ProgramRefusal) -> CommandRefusal {
-        CommandRefusal::File(Verdict::Program(refusal))
+    fn from(verdict: Verdict) -> Refused {
+        Refused::from(CommandRefusal::File(verdict))
+    }
+}
+
+impl From<RefusedFile> for Refused {
+    ghost from_gives = { λ file r. r.refusal ≡ File file.verdict };
+
+    fn from(file: RefusedFile) -> Refused {
+        Refused {
+            refusal: CommandRefusal::File(file.verdict),
+            program: file.program,
+        }
     }
 }

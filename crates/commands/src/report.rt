@@ -10,22 +10,24 @@ ghost use Rattle.commands.specs.Refusals.{command_number};
 use crate::json::write_refusal;
 use crate::meanings::meaning_of_refusal;
 use crate::prefixes::explain_prefix;
-use crate::refusal::CommandRefusal;
+use crate::refusal::{CommandRefusal, Refused};
 use crate::streams::write_failed;
 use command_words::WordsFault;
-use explanations::{explain_with_lines, write_meaning};
+use explanations::{explain, explain_program, write_meaning};
 use job_queue::PoolFault;
-use program_files::{FileBytes, Verdict};
+use program_files::{FileBytes, RefusedProgram, Verdict};
 use program_texts::write_source_line;
 use std::alloc::Global;
 use std::io;
 use std::io::Write;
 
-/// The text that a program file was made of, and for each instruction the number of its line there.
+/// What a command was given.
 #[derive(Clone, Copy)]
-pub struct MadeOf<'a> {
-    pub text: &'a [u8],
-    pub lines: &'a [usize],
+pub enum Given<'a> {
+    /// A program file.
+    File(&'a FileBytes),
+    /// A text of instructions, and for each of them the number of its line there.
+    Text { text: &'a [u8], lines: &'a [usize] },
 }
 
 /// How a refusal is told: in words too, and as a JSON object.
@@ -81,34 +83,14 @@ pub fn report_line<W: Write>(err: &mut W, refusal: CommandRefusal) -> u8
     1
 }
 
-/// Tells why a file is refused, in words too where it is asked for, and answers the status.
-pub fn report_refusal<E: Write>(
-    alloc: Global,
-    file: &FileBytes,
-    refusal: CommandRefusal,
-    in_words: bool,
-    err: &mut E,
-) -> u8
-    ensures status { (result ≡ 1) ⊎ (result ≡ 3) }
-    ensures memory { command_number refusal ≡ memory_number → result ≡ 3 }
-    ensures lost { command_number refusal ≡ pool_fault_number Lost → result ≡ 3 }
-{
-    report_refusal_at(alloc, file, None, refusal, in_words, err)
-}
-
 /// Writes what a verdict on a file means, and of a wrong line, too, where its digits are to stand alone.
 fn write_words_of_file<E: Write>(
     alloc: Global,
     file: &FileBytes,
-    text: Option<MadeOf<'_>>,
     verdict: &Verdict,
     err: &mut E,
 ) -> io::Result<()> {
-    let lines = match text {
-        Some(text) => text.lines,
-        None => &[],
-    };
-    explain_with_lines(alloc, file, lines, verdict, err)?;
+    explain(alloc, file, verdict, err)?;
     match (verdict.line(), file) {
         (Some(line), FileBytes::Whole(bytes)) => explain_prefix(err, bytes, line),
         _ => Ok(()),
@@ -118,66 +100,76 @@ fn write_words_of_file<E: Write>(
 /// Writes what a refusal means; of a file's also what of the file is the cause.
 fn write_words<E: Write>(
     alloc: Global,
-    file: &FileBytes,
-    text: Option<MadeOf<'_>>,
-    refusal: &CommandRefusal,
+    given: Given<'_>,
+    refused: &Refused,
     err: &mut E,
 ) -> io::Result<()> {
-    if let CommandRefusal::File(verdict) = refusal {
-        return write_words_of_file(alloc, file, text, verdict, err);
+    if let Some(program) = &refused.program {
+        let lines = match given {
+            Given::File(_) => &[],
+            Given::Text { lines, .. } => lines,
+        };
+        let RefusedProgram {
+            source,
+            refusal,
+            known,
+        } = program;
+        return explain_program(alloc, source, lines, *refusal, known, err);
     }
-    match meaning_of_refusal(refusal) {
+    if let (Given::File(file), CommandRefusal::File(verdict)) = (given, &refused.refusal) {
+        return write_words_of_file(alloc, file, verdict, err);
+    }
+    match meaning_of_refusal(&refused.refusal) {
         Some(meaning) => write_meaning(err, meaning),
         None => Ok(()),
     }
 }
 
-/// Tells why a file is refused, and the line of the text that it was made of, if it was made of one.
-pub fn report_refusal_at<E: Write>(
+/// Tells why what was given is refused, with the line of a text, in words too where it is asked for, and answers the status.
+pub fn report_refusal<E: Write>(
     alloc: Global,
-    file: &FileBytes,
-    text: Option<MadeOf<'_>>,
-    refusal: CommandRefusal,
+    given: Given<'_>,
+    refused: &Refused,
     in_words: bool,
     err: &mut E,
 ) -> u8
     ensures status { (result ≡ 1) ⊎ (result ≡ 3) }
-    ensures memory { command_number refusal ≡ memory_number → result ≡ 3 }
-    ensures lost { command_number refusal ≡ pool_fault_number Lost → result ≡ 3 }
+    ensures memory { command_number refused.now.refusal ≡ memory_number → result ≡ 3 }
+    ensures lost { command_number refused.now.refusal ≡ pool_fault_number Lost → result ≡ 3 }
 {
-    if refusal.is_memory() {
+    if refused.refusal.is_memory() {
         return out_of_memory(err, in_words);
     }
-    let status = report_line(err, refusal);
-    if let (Some(text), Some(slot)) = (text, refusal.slot()) {
-        let _ = write_source_line(alloc, text.text, slot, err);
+    let status = report_line(err, refused.refusal);
+    if let (Given::Text { text, .. }, Some(slot)) = (given, refused.refusal.slot()) {
+        let _ = write_source_line(alloc, text, slot, err);
     }
     if in_words && status == 1 {
-        let _ = write_words(alloc, file, text, &refusal, err);
+        let _ = write_words(alloc, given, refused, err);
     }
     status
 }
 
-/// Tells a refusal as `report_refusal_at` does, and on the output as a JSON object where that is asked for.
+/// Tells a refusal as `report_refusal` does, and on the output as a JSON object where that is asked for.
 pub fn report_in_form<W: Write, E: Write>(
     alloc: Global,
-    file: &FileBytes,
-    text: Option<MadeOf<'_>>,
-    refusal: CommandRefusal,
+    given: Given<'_>,
+    refused: &Refused,
     form: Telling,
     out: &mut W,
     err: &mut E,
 ) -> u8
     ensures status { (result ≡ 1) ⊎ (result ≡ 3) }
-    ensures memory { command_number refusal ≡ memory_number → result ≡ 3 }
-    ensures told { result ≡ 1 → TellsVerdict form.json refusal (W.contents out.old) (W.contents out.new) }
+    ensures memory { command_number refused.now.refusal ≡ memory_number → result ≡ 3 }
+    ensures told { result ≡ 1 →
+        TellsVerdict form.json refused.now.refusal (W.contents out.old) (W.contents out.new) }
     ensures silent { result ≡ 1 → form.json ≡ false → out.new ≡ out.old }
 {
-    let status = report_refusal_at(alloc, file, text, refusal, form.explain, err);
+    let status = report_refusal(alloc, given, refused, form.explain, err);
     if status != 1 || !form.json {
         return status;
     }
-    match write_refusal(alloc, out, &refusal) {
+    match write_refusal(alloc, out, &refused.refusal) {
         Ok(()) => 1,
         Err(error) => write_failed(err, &error),
     }

@@ -9,13 +9,13 @@ ghost use Rattle.commands.specs.Runs.{ended_line, ended_text, told_text, IsDumpe
 use crate::dump::write_maps;
 use crate::json::{ended_of, traced_of};
 use crate::puts::puts_of;
-use crate::refusal::CommandRefusal;
-use crate::report::{Telling, report_in_form};
+use crate::refusal::{CommandRefusal, Refused};
+use crate::report::{Given, Telling, report_in_form};
 use crate::run_words::explain_run;
 use crate::streams::{read_failed_in_words, write_status, write_text};
 use bpf_model::{EventRefusal, array_of};
 use command_words::SingleRun;
-use program_files::{FileBytes, Verdict, read_file, verify_for_maps};
+use program_files::{FileBytes, Verdict, VerifiedSource, read_file, verify_source};
 use run_once::{Ended, Ran, RunEnd, run_once};
 use std::alloc::{AllocError, Global};
 use std::io;
@@ -105,29 +105,30 @@ fn run_of(
     file: &FileBytes,
     tells: bool,
     single: &SingleRun,
-) -> Result<Vec<u8>, CommandRefusal>
+) -> Result<Vec<u8>, Refused>
     ensures ended { (bytes : List ℕ) → HoldsBytes file.now bytes →
         IfOk result (λ text. IsToldText tells single.now bytes text.items) }
     ensures refused { (bytes : List ℕ) → HoldsBytes file.now bytes →
-        IfErr result (IsRunRefusal single.now bytes) }
+        IfErr result (λ r. IsRunRefusal single.now bytes r.refusal) }
 {
     let source = file.source(alloc)?;
-    let verified = verify_for_maps(alloc, source.program, &source.registry, source.ctx_len)?;
-    if single.context.len() != verified.ctx_len() {
-        return Err(CommandRefusal::Event(EventRefusal::BadContext));
+    let opened = verify_source(alloc, source)?;
+    if single.context.len() != opened.verified.ctx_len() {
+        return Err(Refused::from(CommandRefusal::Event(EventRefusal::BadContext)));
     }
-    let puts = puts_of(alloc, &source.registry, &single.elements)?;
+    let puts = puts_of(alloc, &opened.registry, &single.elements)?;
     let context = array_of(&single.context);
-    let Ok(ran) = run_once(alloc, verified, source.registry, &puts, context, tells) else {
-        return Err(CommandRefusal::File(Verdict::Memory));
+    let VerifiedSource { verified, registry } = opened;
+    let Ok(ran) = run_once(alloc, verified, registry, &puts, context, tells) else {
+        return Err(Refused::from(Verdict::Memory));
     };
     let ended = match ran.outcome {
         RunEnd::Exited(ended) => ended,
-        RunEnd::NotDone(_) => return Err(CommandRefusal::NoPlace),
+        RunEnd::NotDone(_) => return Err(Refused::from(CommandRefusal::NoPlace)),
     };
     match text_of(alloc, ended, ran, tells, single) {
         Ok(text) => Ok(text),
-        Err(_) => Err(CommandRefusal::File(Verdict::Memory)),
+        Err(_) => Err(Refused::from(Verdict::Memory)),
     }
 }
 
@@ -135,23 +136,24 @@ fn run_of(
 fn report_run<W: Write, E: Write>(
     alloc: Global,
     file: &FileBytes,
-    refusal: CommandRefusal,
+    refused: &Refused,
     single: &SingleRun,
     out: &mut W,
     err: &mut E,
 ) -> u8
     ensures status { (result ≡ 1) ⊎ (result ≡ 3) }
-    ensures memory { command_number refusal ≡ memory_number → result ≡ 3 }
-    ensures told { result ≡ 1 → TellsVerdict single.now.json refusal (W.contents out.old) (W.contents out.new) }
+    ensures memory { command_number refused.now.refusal ≡ memory_number → result ≡ 3 }
+    ensures told { result ≡ 1 →
+        TellsVerdict single.now.json refused.now.refusal (W.contents out.old) (W.contents out.new) }
     ensures silent { result ≡ 1 → single.now.json ≡ false → out.new ≡ out.old }
 {
     let form = Telling {
         explain: single.explain,
         json: single.json,
     };
-    let status = report_in_form(alloc, file, None, refusal, form, out, err);
+    let status = report_in_form(alloc, Given::File(file), refused, form, out, err);
     if single.explain && status == 1 {
-        let _ = explain_run(alloc, file, refusal, single, err);
+        let _ = explain_run(alloc, file, refused.refusal, single, err);
     }
     status
 }
@@ -180,6 +182,6 @@ pub fn run_single<R: Read, W: Write, E: Write>(
     };
     match run_of(alloc, &file, tells, single) {
         Ok(text) => write_status(err, write_text(out, &text)),
-        Err(refusal) => report_run(alloc, &file, refusal, single, out, err),
+        Err(refused) => report_run(alloc, &file, &refused, single, out, err),
     }
 }

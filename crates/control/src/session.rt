@@ -8,6 +8,7 @@ use bpf_model::ProgId;
 use maps::Registry;
 use script_lines::ScriptCommand;
 use std::alloc::{AllocError, Global};
+use verifier::Refused;
 use world::Loaded;
 
 /// The state of a script: maps and programs are being made, or there is a world.
@@ -52,6 +53,14 @@ impl Session {
         match self {
             Session::Setup(setup) => setup.program(prog),
             Session::Live(live) => live.world.program(prog),
+        }
+    }
+
+    /// The program that the verifier refused last, until there is a world.
+    pub fn refused(&self) -> Option<&Refused> {
+        match self {
+            Session::Setup(setup) => setup.refused(),
+            Session::Live(_) => None,
         }
     }
 

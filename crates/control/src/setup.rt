@@ -20,15 +20,16 @@ use maps::{MapFault, Registry};
 use script_lines::{Code, Name, Names};
 use std::alloc::{AllocError, Global};
 use std::marker::Model;
-use verifier::verify;
+use verifier::{Refused, verify_or_return};
 use world::{Loaded, World, WorldFault};
 
 /// The maps and programs made so far: the maps as they were created, the programs bound to them. Contracts
-/// see the maps' names and views, and the programs.
+/// see the maps' names and views, and the programs. The program that the verifier refused last is kept for words alone.
 #[derive(Drop)]
 pub struct Setup {
     registry: Registry,
     loaded: Vec<Loaded>,
+    refused: Option<Refused>,
 }
 
 impl Model for Setup {
@@ -59,6 +60,7 @@ impl Setup {
         Setup {
             registry: Registry::new(alloc),
             loaded: Vec::new(alloc),
+            refused: None,
         }
     }
 
@@ -67,6 +69,11 @@ impl Setup {
         ensures { result.now ≡ self.now.registry }
     {
         &self.registry
+    }
+
+    /// The program that the verifier refused last, if it refused one.
+    pub fn refused(&self) -> Option<&Refused> {
+        self.refused.as_ref()
     }
 
     /// The program of this number, if there is one.
@@ -153,9 +160,13 @@ impl Setup {
             Ok(program) => program,
             Err(fault) => return undecoded(fault),
         };
-        let verified = match verify(alloc, program, &bound.shapes, ctx_len) {
+        let verified = match verify_or_return(alloc, program, &bound.shapes, ctx_len) {
             Ok(verified) => verified,
-            Err(refusal) => return unverified(refusal),
+            Err(refused) => {
+                let refusal = refused.refusal;
+                self.refused = Some(refused);
+                return unverified(refusal);
+            }
         };
         let number = self.loaded.len();
         let maps = bound.maps;
@@ -206,7 +217,11 @@ impl Setup {
         ensures start { IfOk result (λ w.
             TracksSchedule w (start_schedule (shapes_made self) self.programs)) }
     {
-        let Setup { registry, loaded } = self;
+        let Setup {
+            registry,
+            loaded,
+            ..
+        } = self;
         match World::new(alloc, registry, loaded) {
             Ok(world) => Ok(world),
             Err(WorldFault::Memory) => Err(AllocError),

@@ -1,6 +1,6 @@
 //! Where an instruction accesses memory.
 
-use bpf_model::{Insn, Reg};
+use bpf_model::{Insn, Reg, Width};
 
 /// An access: through which register, how far from where that leads, and how many bytes.
 #[derive(Clone, Copy)]
@@ -8,6 +8,17 @@ pub struct Access {
     pub base: Reg,
     pub offset: i16,
     pub length: usize,
+}
+
+impl Access {
+    /// An access of so many bytes.
+    fn new(base: Reg, offset: i16, width: Width) -> Option<Access> {
+        Some(Access {
+            base,
+            offset,
+            length: width.bytes(),
+        })
+    }
 }
 
 /// What an instruction loads, if it is a load.
@@ -18,21 +29,13 @@ pub fn loaded(insn: &Insn) -> Option<Access> {
             src,
             offset,
             ..
-        } => Some(Access {
-            base: *src,
-            offset: *offset,
-            length: width.bytes(),
-        }),
+        } => Access::new(*src, *offset, *width),
         Insn::LoadSigned {
             width,
             src,
             offset,
             ..
-        } => Some(Access {
-            base: *src,
-            offset: *offset,
-            length: width.width().bytes(),
-        }),
+        } => Access::new(*src, *offset, width.width()),
         _ => None,
     }
 }
@@ -45,11 +48,7 @@ pub fn accessed(insn: &Insn) -> Option<Access> {
             dst,
             offset,
             ..
-        } => Some(Access {
-            base: *dst,
-            offset: *offset,
-            length: width.bytes(),
-        }),
+        } => Access::new(*dst, *offset, *width),
         _ => loaded(insn),
     }
 }

@@ -1,26 +1,12 @@
 //! How an access begins at no multiple of its width, in words.
 
 use crate::access::{Access, accessed};
-use crate::bounds::sign_of;
+use crate::place::Place;
 use bpf_model::{FRAME_BYTES, Insn};
-use register_kinds::{AbsState, ORIGIN, RegKind};
+use register_kinds::{ORIGIN, RegKind};
 use scalar_domain::Scalar;
 use std::io;
 use std::io::Write;
-use text_likeness::{Filling, write_filled};
-
-/// Writes that an access begins where the frame has this offset from r10, and that this is no multiple of its width.
-fn write_frame<W: Write>(out: &mut W, at: i64, width: usize) -> io::Result<()> {
-    write_filled(
-        out,
-        "  it begins at r10{}{}, which is no multiple of {}",
-        &[
-            Filling::Text(sign_of(at)),
-            Filling::Signed(at),
-            Filling::Count(width),
-        ],
-    )
-}
 
 /// Writes at which byte of its region an access begins or may begin, by a reference at these offsets and so far behind it.
 fn write_region<W: Write>(
@@ -30,20 +16,16 @@ fn write_region<W: Write>(
     width: usize,
 ) -> io::Result<()> {
     if offsets.least != offsets.greatest {
-        return write_filled(
+        return write!(
             out,
-            "  it may begin at a byte that is no multiple of {}",
-            &[Filling::Count(width)],
+            "  it may begin at a byte that is no multiple of {width}"
         );
     }
     let first = offsets.least.wrapping_sub(ORIGIN).cast_signed();
-    write_filled(
+    let place = first.saturating_add(behind);
+    write!(
         out,
-        "  it begins at byte {}, which is no multiple of {}",
-        &[
-            Filling::Signed(first.saturating_add(behind)),
-            Filling::Count(width),
-        ],
+        "  it begins at byte {place}, which is no multiple of {width}"
     )
 }
 
@@ -68,23 +50,18 @@ fn piece_of(bits: u64, width: usize) -> usize {
     }
 }
 
-/// Writes in which pieces an access may be made instead.
-fn write_pieces<W: Write>(out: &mut W, insn: &Insn, piece: usize, width: usize) -> io::Result<()> {
+/// Writes in which pieces an access may be made instead, where a number with these bits is the place.
+fn write_pieces<W: Write>(out: &mut W, insn: &Insn, bits: u64, width: usize) -> io::Result<()> {
+    let piece = piece_of(bits, width);
     let count = if piece == 0 { 1 } else { width / piece };
     let unit = if piece == 1 { "byte" } else { "bytes" };
-    let words = match insn {
-        Insn::Store { .. } => ": write {} stores of {} {}\n",
-        _ => ": write {} loads of {} {}, and put them together by `lsh64` and `or64`\n",
-    };
-    write_filled(
-        out,
-        words,
-        &[
-            Filling::Count(count),
-            Filling::Count(piece),
-            Filling::Text(unit),
-        ],
-    )
+    match insn {
+        Insn::Store { .. } => writeln!(out, ": write {count} stores of {piece} {unit}"),
+        _ => writeln!(
+            out,
+            ": write {count} loads of {piece} {unit}, and put them together by `lsh64` and `or64`"
+        ),
+    }
 }
 
 /// Writes where an access begins by a reference at these offsets, and in which pieces it may be made.
@@ -96,21 +73,24 @@ fn write_at_offsets<W: Write>(
 ) -> io::Result<()> {
     let behind = i64::from(access.offset);
     write_region(out, offsets, behind, access.length)?;
-    let piece = piece_of(bits_of(offsets, behind), access.length);
-    write_pieces(out, insn, piece, access.length)
+    write_pieces(out, insn, bits_of(offsets, behind), access.length)
 }
 
 /// Writes where a load or a store begins that begins at no multiple of its width, and what to write instead.
-pub fn write_alignment<W: Write>(out: &mut W, insn: &Insn, state: &AbsState) -> io::Result<()> {
+pub fn write_alignment<W: Write>(out: &mut W, place: Place<'_>) -> io::Result<()> {
+    let insn = place.insn;
     let Some(access) = accessed(insn) else {
         return Ok(());
     };
-    match state.regs.get(access.base.index()) {
+    match place.kind(access.base) {
         Some(RegKind::Frame(at)) => {
-            let place = i64::from(*at) - FRAME_BYTES as i64 + i64::from(access.offset);
-            write_frame(out, place, access.length)?;
-            let piece = piece_of(place.cast_unsigned(), access.length);
-            write_pieces(out, insn, piece, access.length)
+            let first = i64::from(*at) - FRAME_BYTES as i64 + i64::from(access.offset);
+            let width = access.length;
+            write!(
+                out,
+                "  it begins at r10{first:+}, which is no multiple of {width}"
+            )?;
+            write_pieces(out, insn, first.cast_unsigned(), width)
         }
         Some(RegKind::Ctx(offsets)) => write_at_offsets(out, insn, access, offsets),
         Some(RegKind::Value { offset, .. }) => write_at_offsets(out, insn, access, offset),

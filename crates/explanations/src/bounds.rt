@@ -1,13 +1,12 @@
 //! How an access leaves its region, in words.
 
 use crate::access::{Access, accessed};
-use bpf_model::{FRAME_BYTES, Insn, MapId};
-use program_files::Source;
-use register_kinds::{AbsState, ORIGIN, RegKind};
+use crate::place::Place;
+use bpf_model::FRAME_BYTES;
+use register_kinds::{ORIGIN, RegKind};
 use scalar_domain::Scalar;
 use std::io;
 use std::io::Write;
-use text_likeness::{Filling, write_filled};
 
 /// The first and the last byte that an access may reach, and whether there is but one offset. Bytes are counted from the
 /// start of the region, those of the frame from r10.
@@ -31,44 +30,31 @@ fn way_of(reach: Reach, begin: i64, end: i64) -> &'static str {
     }
 }
 
-/// The sign of a place, where that does not show it.
-pub fn sign_of(place: i64) -> &'static str {
-    if place < 0 { "" } else { "+" }
+/// What an access may reach where its reference leads from one place to another.
+fn reach_of(access: Access, least: i64, greatest: i64) -> Reach {
+    let by = i64::from(access.offset);
+    let more = i64::try_from(access.length).unwrap_or(1).saturating_sub(1);
+    Reach {
+        first: least.saturating_add(by),
+        last: greatest.saturating_add(by).saturating_add(more),
+        is_known: least == greatest,
+    }
 }
 
 /// Writes which bytes of the frame or beside it an access reaches.
 fn write_frame<W: Write>(out: &mut W, access: Access, at: i32) -> io::Result<()> {
     let bytes = FRAME_BYTES as i64;
-    let first = i64::from(at) - bytes + i64::from(access.offset);
-    let more = i64::try_from(access.length).unwrap_or(1).saturating_sub(1);
-    let reach = Reach {
-        first,
-        last: first.saturating_add(more),
-        is_known: true,
-    };
-    write_filled(
-        out,
-        "  it reaches r10{}{}",
-        &[
-            Filling::Text(sign_of(reach.first)),
-            Filling::Signed(reach.first),
-        ],
-    )?;
-    if reach.last != reach.first {
-        write_filled(
-            out,
-            " to r10{}{}",
-            &[
-                Filling::Text(sign_of(reach.last)),
-                Filling::Signed(reach.last),
-            ],
-        )?;
+    let place = i64::from(at) - bytes;
+    let reach = reach_of(access, place, place);
+    let Reach { first, last, .. } = reach;
+    write!(out, "  it reaches r10{first:+}")?;
+    if last != first {
+        write!(out, " to r10{last:+}")?;
     }
     let way = way_of(reach, -bytes, 0);
-    write_filled(
+    writeln!(
         out,
-        ", and {} the frame, which is r10-{} to r10-1\n",
-        &[Filling::Text(way), Filling::Count(FRAME_BYTES)],
+        ", and {way} the frame, which is r10-{FRAME_BYTES} to r10-1"
     )
 }
 
@@ -79,36 +65,19 @@ fn lowered(offset: u64) -> i64 {
         .saturating_sub(ORIGIN as i64)
 }
 
-/// What an access may reach by a reference at these offsets.
-fn reach_of(access: Access, offsets: &Scalar) -> Reach {
-    let by = i64::from(access.offset);
-    let more = i64::try_from(access.length).unwrap_or(1).saturating_sub(1);
-    Reach {
-        first: lowered(offsets.least).saturating_add(by),
-        last: lowered(offsets.greatest)
-            .saturating_add(by)
-            .saturating_add(more),
-        is_known: offsets.least == offsets.greatest,
-    }
-}
-
-/// What is said of the bytes that an access reaches.
-fn reached(reach: Reach) -> &'static str {
-    match (reach.is_known, reach.first == reach.last) {
-        (true, true) => "  it reaches byte {}",
-        (true, false) => "  it reaches bytes {} to {}",
-        (false, true) => "  it may reach byte {}",
-        (false, false) => "  it may reach bytes {} to {}",
-    }
-}
-
 /// Writes which bytes of a region an access reaches.
 fn write_reach<W: Write>(out: &mut W, reach: Reach) -> io::Result<()> {
-    write_filled(
-        out,
-        reached(reach),
-        &[Filling::Signed(reach.first), Filling::Signed(reach.last)],
-    )
+    let Reach { first, last, .. } = reach;
+    let verb = if reach.is_known {
+        "reaches"
+    } else {
+        "may reach"
+    };
+    if first == last {
+        write!(out, "  it {verb} byte {first}")
+    } else {
+        write!(out, "  it {verb} bytes {first} to {last}")
+    }
 }
 
 /// Writes which bytes of a region of this length or beside it an access reaches.
@@ -119,47 +88,34 @@ fn write_region<W: Write>(
     region: &str,
     length: usize,
 ) -> io::Result<()> {
-    let reach = reach_of(access, offsets);
+    let reach = reach_of(access, lowered(offsets.least), lowered(offsets.greatest));
     write_reach(out, reach)?;
-    let end = i64::try_from(length).unwrap_or(i64::MAX);
-    let way = way_of(reach, 0, end);
-    let bytes = match length {
-        0 => ", and {} the {}, which has no bytes\n",
-        1 => ", and {} the {}, which is byte 0\n",
-        _ => ", and {} the {}, which is bytes 0 to {}\n",
-    };
-    write_filled(
-        out,
-        bytes,
-        &[
-            Filling::Text(way),
-            Filling::Text(region),
-            Filling::Count(length.saturating_sub(1)),
-        ],
-    )
+    let way = way_of(reach, 0, i64::try_from(length).unwrap_or(i64::MAX));
+    write!(out, ", and {way} the {region}, which ")?;
+    match length {
+        0 => writeln!(out, "has no bytes"),
+        1 => writeln!(out, "is byte 0"),
+        _ => {
+            let last = length.saturating_sub(1);
+            writeln!(out, "is bytes 0 to {last}")
+        }
+    }
 }
 
 /// Writes how a load or a store leaves the region to which its register leads.
-pub fn write_bounds<W: Write>(
-    out: &mut W,
-    source: &Source,
-    insn: &Insn,
-    state: &AbsState,
-) -> io::Result<()> {
-    let Some(access) = accessed(insn) else {
+pub fn write_bounds<W: Write>(out: &mut W, place: Place<'_>) -> io::Result<()> {
+    let Some(access) = accessed(place.insn) else {
         return Ok(());
     };
-    match state.regs.get(access.base.index()) {
+    match place.kind(access.base) {
         Some(RegKind::Frame(at)) => write_frame(out, access, *at),
         Some(RegKind::Ctx(offsets)) => {
-            write_region(out, access, offsets, "context", source.ctx_len)
+            write_region(out, access, offsets, "context", place.told.source.ctx_len)
         }
-        Some(RegKind::Value { map, offset }) => {
-            match source.registry.shape(MapId::new(*map as usize)) {
-                Some(shape) => write_region(out, access, offset, "value", shape.value_len),
-                None => Ok(()),
-            }
-        }
+        Some(RegKind::Value { map, offset }) => match place.shape(*map) {
+            Some(shape) => write_region(out, access, offset, "value", shape.value_len),
+            None => Ok(()),
+        },
         _ => Ok(()),
     }
 }

@@ -1,12 +1,12 @@
 //! How many locks are open where paths meet.
 
+use crate::ways::targets_of;
 use bpf_model::{CallKind, Insn, KernelFunction, MAX_DEPTH};
 use program_files::Source;
 use std::alloc::{AllocError, Global};
 use std::io;
 use std::io::Write;
-use text_likeness::{Filling, write_filled, write_text};
-use verifier::{falls, judge};
+use verifier::falls;
 
 /// For each number of locks, 0 to `MAX_DEPTH`, whether so many are open on some path.
 type Depths = [bool; 9];
@@ -27,24 +27,14 @@ fn behind(insn: &Insn, depth: usize) -> Option<usize> {
     }
 }
 
-/// The numbers behind an instruction, of those before it.
-fn all_behind(insn: &Insn, before: &Depths) -> Depths {
-    let mut after = [false; 9];
+/// Adds the numbers behind an instruction, of those before it, to those of another one.
+fn put(all: &mut [Depths], index: usize, insn: &Insn, before: &Depths) {
+    let Some(depths) = all.get_mut(index) else {
+        return;
+    };
     for (depth, is_open) in before.iter().enumerate() {
         if *is_open {
-            if let Some(place) = behind(insn, depth).and_then(|depth| after.get_mut(depth)) {
-                *place = true;
-            }
-        }
-    }
-    after
-}
-
-/// Adds numbers to those of an instruction.
-fn put(all: &mut [Depths], index: usize, more: &Depths) {
-    if let Some(depths) = all.get_mut(index) {
-        for (depth, is_open) in more.iter().enumerate() {
-            if let (true, Some(place)) = (*is_open, depths.get_mut(depth)) {
+            if let Some(place) = behind(insn, depth).and_then(|depth| depths.get_mut(depth)) {
                 *place = true;
             }
         }
@@ -57,23 +47,17 @@ fn depths_of(
     instructions: &[Insn],
     targets: &[Option<usize>],
 ) -> Result<Vec<Depths>, AllocError> {
-    let mut all = Vec::with_capacity(alloc, instructions.len())?;
-    for _ in instructions {
-        all.push([false; 9])?;
-    }
+    let mut all = vec![in alloc; [false; 9]; instructions.len()]?;
     if let Some(entry) = all.get_mut(0) {
         entry[0] = true;
     }
     for (index, insn) in instructions.iter().enumerate() {
-        let Some(before) = all.get(index) else {
-            return Ok(all);
-        };
-        let after = all_behind(insn, before);
+        let before = all.get(index).copied().unwrap_or([false; 9]);
         if falls(insn) {
-            put(&mut all, index.saturating_add(1), &after);
+            put(&mut all, index.saturating_add(1), insn, &before);
         }
         if let Some(Some(target)) = targets.get(index) {
-            put(&mut all, *target, &after);
+            put(&mut all, *target, insn, &before);
         }
     }
     Ok(all)
@@ -84,15 +68,15 @@ fn write_numbers<W: Write>(out: &mut W, depths: &Depths) -> io::Result<()> {
     if depths.iter().filter(|is_open| **is_open).count() < 2 {
         return Ok(());
     }
-    write_text(out, "  locks that are not given up, by the path: ")?;
+    write!(out, "  locks that are not given up, by the path: ")?;
     let mut before = "";
     for (depth, is_open) in depths.iter().enumerate() {
         if *is_open {
-            write_filled(out, "{}{}", &[Filling::Text(before), Filling::Count(depth)])?;
+            write!(out, "{before}{depth}")?;
             before = " or ";
         }
     }
-    write_text(out, "\n")
+    writeln!(out)
 }
 
 /// Writes how many locks are open before the instruction of this index, where paths with other numbers of them meet there.
@@ -104,16 +88,10 @@ pub fn write_depths<W: Write>(
     index: usize,
     out: &mut W,
 ) -> io::Result<()> {
-    let instructions = source.program.instructions();
-    let Ok(targets) = judge(
-        alloc,
-        instructions,
-        source.program.starts(),
-        source.program.slot_count(),
-    ) else {
+    let Some(targets) = targets_of(alloc, source)? else {
         return Ok(());
     };
-    let all = depths_of(alloc, instructions, &targets)?;
+    let all = depths_of(alloc, source.program.instructions(), &targets)?;
     match all.get(index) {
         Some(depths) => write_numbers(out, depths),
         None => Ok(()),

@@ -11,10 +11,11 @@ mod explanation;
 mod lost;
 mod meaning;
 mod missing;
+mod place;
 mod reads;
 mod slot_lines;
 mod ways;
 
 pub use causes::FUNCTIONS;
-pub use explanation::{explain, explain_with_lines, slot_shown, write_meaning};
+pub use explanation::{explain, explain_program, slot_shown, write_meaning};
 pub use meaning::{Meaning, meaning_of, meaning_of_event};

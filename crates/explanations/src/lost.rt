@@ -1,13 +1,12 @@
 //! How a register or a byte of the frame came to be unreadable, in words.
 
+use crate::place::Told;
 use crate::ways::{Edge, Ways, ways_to};
 use disasm::line_of;
-use program_files::Source;
 use register_kinds::RegKind;
 use std::alloc::Global;
 use std::io;
 use std::io::Write;
-use text_likeness::{Filling, write_filled, write_text};
 use verifier_log::{Watched, write_kind};
 
 /// How many instructions are named at which something was lost.
@@ -32,63 +31,46 @@ fn differ(one: &RegKind, other: &RegKind) -> bool {
     }
 }
 
-/// The first of these edges that leads where this one does, of which something else is known.
-fn other_edge(edges: &[Edge], edge: Edge) -> Option<Edge> {
-    for other in edges {
-        if other.to == edge.to && differ(&other.kind, &edge.kind) {
-            return Some(*other);
-        }
-    }
-    None
-}
-
 /// Two edges that lead to one instruction, of which different things are known. The edges stand by where they come from, the greatest
 /// first, and of the two the lower comes first.
 fn meeting(edges: &[Edge]) -> Option<(Edge, Edge)> {
     for edge in edges {
-        if let Some(other) = other_edge(edges, *edge) {
-            return Some((other, *edge));
+        let other = edges.iter().find(|other| other.to == edge.to
+            && differ(&other.kind, &edge.kind));
+        if let Some(other) = other {
+            return Some((*other, *edge));
         }
     }
     None
 }
 
-/// A program, and for each of its instructions the line of a text where it stands, where it was made of one.
-#[derive(Clone, Copy)]
-pub struct Told<'a> {
-    pub source: &'a Source,
-    pub lines: &'a [usize],
-}
-
-/// The slot at which the instruction of an index begins.
-fn slot_of(source: &Source, index: usize) -> usize {
-    source.program.starts().get(index).copied().unwrap_or(0)
-}
-
 /// Writes the slot at which the instruction of an index begins, and the line of the text where it stands.
 fn write_slot<W: Write>(out: &mut W, told: Told<'_>, index: usize) -> io::Result<()> {
-    let slot = slot_of(told.source, index);
+    let slot = told
+        .source
+        .program
+        .starts()
+        .get(index)
+        .copied()
+        .unwrap_or(0);
+    write!(out, "{slot}")?;
     match told.lines.get(index) {
-        Some(line) => write_filled(
-            out,
-            "{} (line {})",
-            &[Filling::Count(slot), Filling::Count(*line)],
-        ),
-        None => write_filled(out, "{}", &[Filling::Count(slot)]),
+        Some(line) => write!(out, " (line {line})"),
+        None => Ok(()),
     }
 }
 
 /// Writes what is known on an edge, and from where it leads.
 fn write_edge<W: Write>(out: &mut W, told: Told<'_>, edge: Edge) -> io::Result<()> {
-    write_text(out, "    from ")?;
+    write!(out, "    from ")?;
     write_slot(out, told, edge.from)?;
-    write_text(out, ": ")?;
+    write!(out, ": ")?;
     match edge.kind {
-        RegKind::Unwritten => write_text(out, "not written")?,
-        RegKind::Ended => write_text(out, "a reference to an element, whose section has ended")?,
+        RegKind::Unwritten => write!(out, "not written")?,
+        RegKind::Ended => write!(out, "a reference to an element, whose section has ended")?,
         kind => write_kind(out, told.source, &kind)?,
     }
-    write_text(out, "\n")
+    writeln!(out)
 }
 
 /// Writes what is known on two ways that meet, where different things are.
@@ -102,48 +84,32 @@ fn write_meeting<W: Write>(out: &mut W, told: Told<'_>, ways: &Ways) -> io::Resu
     }
 }
 
-/// Writes the text of the instruction of an index, and its slot.
-fn write_place<W: Write>(
-    alloc: Global,
-    told: Told<'_>,
-    index: usize,
-    out: &mut W,
-) -> io::Result<()> {
-    let Some(insn) = told.source.program.instructions().get(index) else {
-        return Ok(());
-    };
-    let text = line_of(alloc, insn)?;
-    write_filled(out, "`{}` at ", &[Filling::Text(text.as_str())])?;
-    write_slot(out, told, index)
-}
-
-/// Writes the instructions of these indexes and their slots, as one or the other.
+/// Writes the texts of the instructions of these indexes and their slots, as one or the other.
 fn write_places<W: Write>(
     alloc: Global,
     told: Told<'_>,
     indexes: &[usize],
     out: &mut W,
 ) -> io::Result<()> {
-    for (number, index) in indexes.iter().enumerate().take(MOST_NAMED) {
-        if number > 0 {
-            write_text(out, " or ")?;
+    let mut before = "";
+    for index in indexes.iter().take(MOST_NAMED) {
+        write!(out, "{before}")?;
+        before = " or ";
+        if let Some(insn) = told.source.program.instructions().get(*index) {
+            let text = line_of(alloc, insn)?;
+            write!(out, "`{text}` at ")?;
+            write_slot(out, told, *index)?;
         }
-        write_place(alloc, told, *index, out)?;
     }
     if indexes.len() > MOST_NAMED {
-        write_text(out, " or another one")?;
+        write!(out, " or another one")?;
     }
     Ok(())
 }
 
 /// Whether something else is known on one of these edges than this, which cannot be read.
 fn is_some_other(edges: &[Edge], bad: RegKind) -> bool {
-    for edge in edges {
-        if edge.kind != bad {
-            return true;
-        }
-    }
-    false
+    edges.iter().any(|edge| edge.kind != bad)
 }
 
 /// Writes what became of something, and at which instructions.
@@ -157,15 +123,15 @@ fn write_loss<W: Write>(
 ) -> io::Result<()> {
     let is_readable = is_some_other(&ways.edges, bad);
     if is_readable || ways.is_from_entry {
-        write_text(out, "on some path ")?;
+        write!(out, "on some path ")?;
     }
-    write_text(out, how)?;
+    write!(out, "{how}")?;
     write_places(alloc, told, &ways.lost, out)?;
     if ways.is_from_entry {
-        return write_text(out, ", on some not written");
+        return write!(out, ", on some not written");
     }
     if !is_readable && ways.lost.len() > 1 {
-        return write_text(out, ", by the path");
+        return write!(out, ", by the path");
     }
     Ok(())
 }
@@ -178,20 +144,16 @@ fn write_why<W: Write>(
     bad: RegKind,
     out: &mut W,
 ) -> io::Result<()> {
-    match bad {
-        RegKind::Unwritten if !ways.lost.is_empty() => {
-            write_loss(alloc, told, ways, bad, "cleared by ", out)
-        }
+    let how = match bad {
+        RegKind::Unwritten if !ways.lost.is_empty() => "cleared by ",
         RegKind::Unwritten if is_some_other(&ways.edges, bad) => {
-            write_text(out, "not written on every path")
+            return write!(out, "not written on every path");
         }
-        RegKind::Unwritten => write_text(out, "written on no path"),
-        RegKind::Ended if !ways.lost.is_empty() => {
-            let how = "a reference to an element, ended by ";
-            write_loss(alloc, told, ways, bad, how, out)
-        }
-        kind => write_kind(out, told.source, &kind),
-    }
+        RegKind::Unwritten => return write!(out, "written on no path"),
+        RegKind::Ended if !ways.lost.is_empty() => "a reference to an element, ended by ",
+        kind => return write_kind(out, told.source, &kind),
+    };
+    write_loss(alloc, told, ways, bad, how, out)
 }
 
 /// Writes why a register, which is of this kind before the instruction of an index, cannot be read there: which call has cleared
@@ -208,11 +170,11 @@ pub fn write_unreadable<W: Write>(
 ) -> io::Result<bool> {
     let Some(ways) = ways_to(alloc, told.source, index, Watched::Register(register), bad)? else {
         write_kind(out, told.source, &bad)?;
-        write_text(out, "\n")?;
+        writeln!(out)?;
         return Ok(false);
     };
     write_why(alloc, told, &ways, bad, out)?;
-    write_text(out, "\n")?;
+    writeln!(out)?;
     write_meeting(out, told, &ways)?;
     Ok(bad == RegKind::Unwritten && !ways.lost.is_empty())
 }
@@ -233,9 +195,9 @@ pub fn write_lost_byte<W: Write>(
         return Ok(());
     };
     if bad == RegKind::Ended && !ways.lost.is_empty() {
-        write_text(out, "  its section was ended by ")?;
+        write!(out, "  its section was ended by ")?;
         write_places(alloc, told, &ways.lost, out)?;
-        write_text(out, "\n")?;
+        writeln!(out)?;
     }
     write_meeting(out, told, &ways)
 }

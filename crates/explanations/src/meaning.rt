@@ -18,191 +18,121 @@ impl Meaning {
     pub const fn new(name: &'static str, text: &'static str) -> Meaning {
         Meaning { name, text }
     }
+
+    /// What `NAME: MEANING` says.
+    fn of(words: &'static str) -> Meaning {
+        let (name, text) = words.split_once(": ").unwrap_or((words, ""));
+        Meaning { name, text }
+    }
 }
 
 /// What a flaw of an instruction's bytes means.
-fn of_flaw(flaw: InsnFlaw) -> Meaning {
+fn of_flaw(flaw: InsnFlaw) -> &'static str {
     match flaw {
-        InsnFlaw::UnknownOpcode => Meaning::new(
-            "UnknownOpcode",
-            "the opcode byte stands for nothing",
-        ),
-        InsnFlaw::OutsideProfile => Meaning::new(
-            "OutsideProfile",
-            "a packet or atomic instruction",
-        ),
-        InsnFlaw::BadRegister => Meaning::new(
-            "BadRegister",
-            "a register nibble above 10, used or not",
-        ),
-        InsnFlaw::UnsupportedSource => Meaning::new(
-            "UnsupportedSource",
-            "the source field of a call is not 0 or 2, that of a wide instruction not 0 or 5",
-        ),
-        InsnFlaw::UnusedField => Meaning::new(
-            "UnusedField",
-            "a field that the instruction does not use is not zero",
-        ),
-        InsnFlaw::BadOffset => Meaning::new(
-            "BadOffset",
-            "the offset of DIV or MOD is not 0 or 1, that of MOV by a register not 0, 8, 16 or (64 bits) 32",
-        ),
-        InsnFlaw::BadWidth => Meaning::new(
-            "BadWidth",
-            "a byte swap of other than 16, 32 or 64 bits",
-        ),
-        InsnFlaw::WideCut => Meaning::new("WideCut", "a wide instruction in the last slot"),
-        InsnFlaw::WideTail => Meaning::new(
-            "WideTail",
-            "the second slot of a wide instruction is not a bare number, or not zero where the source is 5",
-        ),
+        InsnFlaw::UnknownOpcode => "UnknownOpcode: the opcode byte stands for nothing",
+        InsnFlaw::OutsideProfile => "OutsideProfile: a packet or atomic instruction",
+        InsnFlaw::BadRegister => "BadRegister: a register nibble above 10, used or not",
+        InsnFlaw::UnsupportedSource =>
+            "UnsupportedSource: the source field of a call is not 0 or 2, that of a wide instruction not 0 or 5",
+        InsnFlaw::UnusedField =>
+            "UnusedField: a field that the instruction does not use is not zero",
+        InsnFlaw::BadOffset =>
+            "BadOffset: the offset of DIV or MOD is not 0 or 1, that of MOV by a register not 0, 8, 16 or (64 bits) 32",
+        InsnFlaw::BadWidth => "BadWidth: a byte swap of other than 16, 32 or 64 bits",
+        InsnFlaw::WideCut => "WideCut: a wide instruction in the last slot",
+        InsnFlaw::WideTail =>
+            "WideTail: the second slot of a wide instruction is not a bare number, or not zero where the source is 5",
     }
 }
 
 /// What it means that bytes are no program; `None` where memory ran out.
-fn of_code(fault: &DecodeFault) -> Option<Meaning> {
+fn of_code(fault: &DecodeFault) -> Option<&'static str> {
     match fault {
-        DecodeFault::Length => Some(Meaning::new(
-            "Length",
-            "the number of bytes is not a multiple of 8",
-        )),
-        DecodeFault::Empty => Some(Meaning::new("Empty", "there is no instruction")),
-        DecodeFault::TooLong => Some(Meaning::new("TooLong", "more than 4,096 slots")),
+        DecodeFault::Length => Some("Length: the number of bytes is not a multiple of 8"),
+        DecodeFault::Empty => Some("Empty: there is no instruction"),
+        DecodeFault::TooLong => Some("TooLong: more than 4,096 slots"),
         DecodeFault::Insn { flaw, .. } => Some(of_flaw(*flaw)),
         DecodeFault::Memory => None,
     }
 }
 
 /// What a flaw of the jump graph means.
-pub fn meaning_of_flaw(flaw: GraphFlaw) -> Meaning {
+fn of_graph(flaw: GraphFlaw) -> &'static str {
     match flaw {
-        GraphFlaw::JumpTarget => Meaning::new(
-            "JumpTarget",
-            "a jump leads to no instruction's start",
-        ),
-        GraphFlaw::BackJump => Meaning::new(
-            "BackJump",
-            "a jump leads to its own slot or before it",
-        ),
-        GraphFlaw::FallsOff => Meaning::new("FallsOff", "the last instruction is not EXIT"),
-        GraphFlaw::Unreachable => Meaning::new(
-            "Unreachable",
-            "no path of the jump graph leads to the instruction",
-        ),
+        GraphFlaw::JumpTarget => "JumpTarget: a jump leads to no instruction's start",
+        GraphFlaw::BackJump => "BackJump: a jump leads to its own slot or before it",
+        GraphFlaw::FallsOff => "FallsOff: the last instruction is not EXIT",
+        GraphFlaw::Unreachable => "Unreachable: no path of the jump graph leads to the instruction",
     }
 }
 
-/// What it means that an instruction is refused for how it uses the maps, sections and functions; `None` where memory ran out.
-fn of_use(fault: InsnFault) -> Option<Meaning> {
-    let meaning = match fault {
-        InsnFault::MaybeNull => Meaning::new(
-            "MaybeNull",
-            "what a lookup gave is used before it is compared with null",
-        ),
-        InsnFault::OutsideSection => Meaning::new(
-            "OutsideSection",
-            "an element of a hash map is reached outside the section of its lookup, or a lookup is made outside a section and r1 is no array",
-        ),
-        InsnFault::UnpairedSection => Meaning::new(
-            "UnpairedSection",
-            "a lock where 8 are open, an unlock outside a section, an exit inside one, or paths that differ in depth",
-        ),
-        InsnFault::UnknownCall => Meaning::new("UnknownCall", "a call of an unknown function"),
-        InsnFault::WrongArgument => Meaning::new(
-            "WrongArgument",
-            "an argument of a call is of a wrong kind",
-        ),
-        InsnFault::NoSuchMap => Meaning::new(
-            "NoSuchMap",
-            "a map that is not in the program's list",
-        ),
-        InsnFault::ContextWrite => Meaning::new("ContextWrite", "a store to the context"),
-        _ => return None,
-    };
-    Some(meaning)
-}
-
 /// What it means that an instruction is refused; `None` where memory ran out.
-pub fn meaning_of_fault(fault: InsnFault) -> Option<Meaning> {
-    let meaning = match fault {
-        InsnFault::UnwrittenRegister => Meaning::new(
-            "UnwrittenRegister",
-            "a register is read that is not written on every path, or not since a call",
-        ),
-        InsnFault::FramePointerWritten => Meaning::new("FramePointerWritten", "r10 is written"),
-        InsnFault::PointerArithmetic => Meaning::new(
-            "PointerArithmetic",
-            "a pointer or map as a number, or an offset that may be too far, or one in the frame that is not known as one number",
-        ),
-        InsnFault::NotAPointer => Meaning::new(
-            "NotAPointer",
-            "memory reached through a number or a map",
-        ),
-        InsnFault::OutOfBounds => Meaning::new(
-            "OutOfBounds",
-            "some possible offset of an access lies outside its region",
-        ),
-        InsnFault::Misaligned => Meaning::new(
-            "Misaligned",
-            "some possible offset is not a multiple of the width",
-        ),
-        InsnFault::UnwrittenFrame => Meaning::new(
-            "UnwrittenFrame",
-            "a byte of the frame is read that is not written on every path",
-        ),
-        InsnFault::PointerLeak => Meaning::new(
-            "PointerLeak",
-            "a pointer or map is stored to an element, stored or read in part, part of a call's key or value, or returned by EXIT",
-        ),
-        InsnFault::MixedRegions => Meaning::new(
-            "MixedRegions",
-            "a register or a byte of the frame is read that holds different kinds on different paths",
-        ),
-        _ => return of_use(fault),
+fn of_fault(fault: InsnFault) -> Option<&'static str> {
+    let words = match fault {
+        InsnFault::UnwrittenRegister =>
+            "UnwrittenRegister: a register is read that is not written on every path, or not since a call",
+        InsnFault::FramePointerWritten => "FramePointerWritten: r10 is written",
+        InsnFault::PointerArithmetic =>
+            "PointerArithmetic: a pointer or map as a number, or an offset that may be too far, or one in the frame that is not known as one number",
+        InsnFault::NotAPointer => "NotAPointer: memory reached through a number or a map",
+        InsnFault::OutOfBounds =>
+            "OutOfBounds: some possible offset of an access lies outside its region",
+        InsnFault::Misaligned => "Misaligned: some possible offset is not a multiple of the width",
+        InsnFault::UnwrittenFrame =>
+            "UnwrittenFrame: a byte of the frame is read that is not written on every path",
+        InsnFault::PointerLeak =>
+            "PointerLeak: a pointer or map is stored to an element, stored or read in part, part of a call's key or value, or returned by EXIT",
+        InsnFault::MixedRegions =>
+            "MixedRegions: a register or a byte of the frame is read that holds different kinds on different paths",
+        InsnFault::MaybeNull =>
+            "MaybeNull: what a lookup gave is used before it is compared with null",
+        InsnFault::OutsideSection =>
+            "OutsideSection: an element of a hash map is reached outside the section of its lookup, or a lookup is made outside a section and r1 is no array",
+        InsnFault::UnpairedSection =>
+            "UnpairedSection: a lock where 8 are open, an unlock outside a section, an exit inside one, or paths that differ in depth",
+        InsnFault::UnknownCall => "UnknownCall: a call of an unknown function",
+        InsnFault::WrongArgument => "WrongArgument: an argument of a call is of a wrong kind",
+        InsnFault::NoSuchMap => "NoSuchMap: a map that is not in the program's list",
+        InsnFault::ContextWrite => "ContextWrite: a store to the context",
+        InsnFault::Memory => return None,
     };
-    Some(meaning)
+    Some(words)
 }
 
 /// What it means that the verifier refuses a program; `None` where memory ran out.
-fn of_program(refusal: &ProgramRefusal) -> Option<Meaning> {
+fn of_program(refusal: &ProgramRefusal) -> Option<&'static str> {
     match refusal {
-        ProgramRefusal::Graph { flaw, .. } => Some(meaning_of_flaw(*flaw)),
-        ProgramRefusal::Instruction { fault, .. } => meaning_of_fault(*fault),
+        ProgramRefusal::Graph { flaw, .. } => Some(of_graph(*flaw)),
+        ProgramRefusal::Instruction { fault, .. } => of_fault(*fault),
         ProgramRefusal::Memory => None,
     }
 }
 
 /// What a verdict on a program file means; `None` where memory ran out.
 pub fn meaning_of(verdict: &Verdict) -> Option<Meaning> {
-    match verdict {
-        Verdict::File(LoadFault::BadFile { .. }) => Some(Meaning::new(
-            "BadFile",
-            "a line of a program file is wrong",
-        )),
-        Verdict::Code(fault) => of_code(fault),
-        Verdict::Program(refusal) => of_program(refusal),
-        Verdict::File(LoadFault::Memory) | Verdict::Memory => None,
-    }
+    let words = match verdict {
+        Verdict::File(LoadFault::BadFile { .. }) => "BadFile: a line of a program file is wrong",
+        Verdict::Code(fault) => of_code(fault)?,
+        Verdict::Program(refusal) => of_program(refusal)?,
+        Verdict::File(LoadFault::Memory) | Verdict::Memory => return None,
+    };
+    Some(Meaning::of(words))
 }
 
 /// What it means that an event is refused: a line of a script, or the context or an element of a run.
 pub fn meaning_of_event(refusal: EventRefusal) -> Meaning {
-    match refusal {
-        EventRefusal::NoRun => Meaning::new("NoRun", "no run has the run slot"),
-        EventRefusal::Ended => Meaning::new("Ended", "the run has ended"),
-        EventRefusal::NoProgram => Meaning::new("NoProgram", "no program has the number"),
-        EventRefusal::BadContext => Meaning::new(
-            "BadContext",
-            "a context of another length than the program's, or above 256",
-        ),
-        EventRefusal::RunsFull => Meaning::new("RunsFull", "no run slot is free"),
-        EventRefusal::NoMap => Meaning::new("NoMap", "no map has the number, or the name"),
-        EventRefusal::BadLength => Meaning::new(
-            "BadLength",
-            "a key or a value of another length than the map's",
-        ),
-        EventRefusal::StillRunning => Meaning::new("StillRunning", "the run has not ended"),
-    }
+    let words = match refusal {
+        EventRefusal::NoRun => "NoRun: no run has the run slot",
+        EventRefusal::Ended => "Ended: the run has ended",
+        EventRefusal::NoProgram => "NoProgram: no program has the number",
+        EventRefusal::BadContext =>
+            "BadContext: a context of another length than the program's, or above 256",
+        EventRefusal::RunsFull => "RunsFull: no run slot is free",
+        EventRefusal::NoMap => "NoMap: no map has the number, or the name",
+        EventRefusal::BadLength => "BadLength: a key or a value of another length than the map's",
+        EventRefusal::StillRunning => "StillRunning: the run has not ended",
+    };
+    Meaning::of(words)
 }
 
 /// What it means that sections are not paired at an instruction where so many locks are open, or where paths differ in how

@@ -95,20 +95,11 @@ struct Search {
 }
 
 impl Search {
-    /// Nothing is found yet of the ways to an instruction among so many.
-    fn to(alloc: Global, index: usize, len: usize) -> Result<Search, AllocError> {
-        let mut asked = vec![in alloc; false; len]?;
-        if let Some(mark) = asked.get_mut(index) {
+    /// Marks an instruction as one before which what is watched is unreadable.
+    fn ask(&mut self, index: usize) {
+        if let Some(mark) = self.asked.get_mut(index) {
             *mark = true;
         }
-        Ok(Search {
-            ways: Ways {
-                lost: Vec::new(alloc),
-                edges: Vec::new(alloc),
-                is_from_entry: false,
-            },
-            asked,
-        })
     }
 
     /// Whether what is watched is unreadable before this instruction, on a way to the one that is refused.
@@ -130,15 +121,10 @@ impl Search {
             return Ok(());
         }
         self.ways.edges.push(edge)?;
-        if edge.kind != bad {
-            return Ok(());
-        }
-        if watch.loses(edge.from, bad) {
+        if edge.kind == bad && watch.loses(edge.from, bad) {
             self.ways.lost.push(edge.from)?;
-            return Ok(());
-        }
-        if let Some(mark) = self.asked.get_mut(edge.from) {
-            *mark = true;
+        } else if edge.kind == bad {
+            self.ask(edge.from);
         }
         Ok(())
     }
@@ -146,15 +132,40 @@ impl Search {
 
 /// The ways to the instruction of this index, before which what is watched is of this kind, which cannot be read.
 fn found(alloc: Global, watch: &Watch<'_>, index: usize, bad: RegKind) -> Result<Ways, AllocError> {
-    let mut search = Search::to(alloc, index, watch.instructions.len())?;
-    for back in 0..index {
-        let from = index.saturating_sub(back).saturating_sub(1);
+    let mut search = Search {
+        ways: Ways {
+            lost: Vec::new(alloc),
+            edges: Vec::new(alloc),
+            is_from_entry: false,
+        },
+        asked: vec![in alloc; false; watch.instructions.len()]?,
+    };
+    search.ask(index);
+    for from in (0..index).rev() {
         let (falling, jumping) = watch.edges_from(from);
         search.take(watch, falling, bad)?;
         search.take(watch, jumping, bad)?;
     }
     search.ways.is_from_entry = search.is_asked(0);
     Ok(search.ways)
+}
+
+/// The index to which each instruction of a program jumps, if it is a jump. `None` where the jump graph has a flaw.
+pub fn targets_of(
+    alloc: Global,
+    source: &Source,
+) -> Result<Option<Vec<Option<usize>>>, AllocError> {
+    let program = &source.program;
+    match judge(
+        alloc,
+        program.instructions(),
+        program.starts(),
+        program.slot_count(),
+    ) {
+        Ok(targets) => Ok(Some(targets)),
+        Err(GraphRefusal::Memory) => Err(AllocError),
+        Err(GraphRefusal::Flaw { .. }) => Ok(None),
+    }
 }
 
 /// How what is watched came to be of this kind before the instruction of this index: `Unwritten`, `Ended` or `Mixed`. `None` where
@@ -168,20 +179,12 @@ pub fn ways_to(
     watched: Watched,
     bad: RegKind,
 ) -> Result<Option<Ways>, AllocError> {
-    let instructions = source.program.instructions();
-    let targets = match judge(
-        alloc,
-        instructions,
-        source.program.starts(),
-        source.program.slot_count(),
-    ) {
-        Ok(targets) => targets,
-        Err(GraphRefusal::Memory) => return Err(AllocError),
-        Err(GraphRefusal::Flaw { .. }) => return Ok(None),
+    let Some(targets) = targets_of(alloc, source)? else {
+        return Ok(None);
     };
     let passings = passings_of(alloc, source, &targets, watched)?;
     let watch = Watch {
-        instructions,
+        instructions: source.program.instructions(),
         targets: &targets,
         passings: &passings,
         watched,

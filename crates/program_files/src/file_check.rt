@@ -5,8 +5,9 @@ ghost use Rattle.program_files.specs.Files.{HoldsBytes};
 ghost use Rattle.program_files.specs.Checks.{IsAcceptedFile, IsSourceOf, IsTextOf, IsDecodeRefusal, IsCheckedRefusal};
 
 use crate::program_file::{FileBytes, Source};
+use crate::refused::RefusedFile;
 use crate::verdict::Verdict;
-use crate::verified_file::verify_for_maps;
+use crate::verified_file::verify_source;
 use disasm::disassemble;
 use std::alloc::Global;
 
@@ -17,35 +18,35 @@ pub struct Accepted {
     pub slots: usize,
 }
 
-/// Verifies a program with its maps and its context.
+/// Verifies a program with its maps and its context, and gives it back where it is refused.
 ///
 /// Errors: what the verifier refuses, 20 to 39, with the slot; or want of memory, which is 13.
-pub fn check_source(alloc: Global, source: Source) -> Result<Accepted, Verdict>
+pub fn check_source(alloc: Global, source: Source) -> Result<Accepted, RefusedFile>
     requires { source.ctx_len ≤ CTX_BYTES }
     ensures accepted { (bytes : List ℕ) → IsSourceOf bytes source →
         IfOk result (IsAcceptedFile bytes) }
     ensures refused { (bytes : List ℕ) → IsSourceOf bytes source →
-        IfErr result (IsCheckedRefusal bytes) }
+        IfErr result (λ r. IsCheckedRefusal bytes r.verdict) }
 {
-    let verified = verify_for_maps(alloc, source.program, &source.registry, source.ctx_len)?;
-    let program = verified.program();
+    let source = verify_source(alloc, source)?;
+    let program = source.verified.program();
     Ok(Accepted {
         instructions: program.len(),
         slots: program.slot_count(),
     })
 }
 
-/// Decodes and verifies a file's program.
+/// Decodes and verifies a file's program, and gives it back where the verifier refuses it.
 ///
 /// Errors: the first of these, or want of memory, which is 13.
 /// - `File`: the line of the file that is wrong, 94.
 /// - `Code`: what decoding refuses, 1 to 3 of the length, 4 to 12 with the slot.
 /// - `Program`: what the verifier refuses, 20 to 39, with the slot.
-pub fn check(alloc: Global, file: &FileBytes) -> Result<Accepted, Verdict>
+pub fn check(alloc: Global, file: &FileBytes) -> Result<Accepted, RefusedFile>
     ensures accepted { (bytes : List ℕ) → HoldsBytes file.now bytes →
         IfOk result (IsAcceptedFile bytes) }
     ensures refused { (bytes : List ℕ) → HoldsBytes file.now bytes →
-        IfErr result (IsCheckedRefusal bytes) }
+        IfErr result (λ r. IsCheckedRefusal bytes r.verdict) }
 {
     let source = file.source(alloc)?;
     check_source(alloc, source)

@@ -1,18 +1,21 @@
 //! A program, verified with its file's maps and its context.
-ghost use Rattle.std.specs.Prelude.{◌≡◌, ◌≤◌, length, IfOk, IfErr};
+ghost use Rattle.std.specs.Prelude.{◌≡◌, ◌≤◌, List, ℕ, length, IfOk, IfErr, OnOk};
 ghost use Rattle.model_laws.specs.PlainMaps.{IsPlainWithMaps};
 ghost use Rattle.bpf_model.specs.declared.limits.TheConstants.{CTX_BYTES, MAX_MAPS};
 ghost use Rattle.bpf_model.specs.View.{shapes_of_maps};
 ghost use Rattle.verifier.specs.GraphFlaws.{HasGoodGraph};
 ghost use Rattle.plan_laws.specs.Verified.{IsVerified};
 ghost use Rattle.verifier.specs.Verdict.{IsToldOf, IsAccepted as IsTaken};
+ghost use Rattle.program_files.specs.Checks.{IsSourceOf, IsCheckedRefusal};
 
 use crate::program_file::Source;
+use crate::refused::{RefusedFile, RefusedProgram};
+use crate::verdict::Verdict;
 use bpf_model::{MapId, MapShape};
 use insn_codec::Program;
 use maps::Registry;
 use std::alloc::{AllocError, Global};
-use verifier::{AbsState, ProgramRefusal, Verified, verify};
+use verifier::{ProgramRefusal, Verified, verify, verify_or_return};
 
 /// The shapes of a registry's maps, by their numbers.
 pub fn shapes_of(alloc: Global, registry: &Registry) -> Result<Vec<MapShape>, AllocError>
@@ -26,19 +29,6 @@ pub fn shapes_of(alloc: Global, registry: &Registry) -> Result<Vec<MapShape>, Al
         }
     }
     Ok(shapes)
-}
-
-/// What the verifier knew where it refuses a file's program, as `verifier::known_where_refused` says.
-///
-/// The error is that there is no memory left.
-pub fn known_where_refused(
-    alloc: Global,
-    source: &Source,
-) -> Result<Option<Box<AbsState>>, AllocError>
-    requires { source.now.ctx_len ≤ CTX_BYTES }
-{
-    let shapes = shapes_of(alloc, &source.registry)?;
-    verifier::known_where_refused(alloc, &source.program, &shapes, source.ctx_len)
 }
 
 /// Verifies a program for contexts of this length and for maps of the shapes of these, in their order.
@@ -62,4 +52,49 @@ pub fn verify_for_maps(
 {
     let shapes = shapes_of(alloc, maps)?;
     verify(alloc, program, &shapes, ctx_len)
+}
+
+/// A program file's program that is verified, and the file's maps.
+#[derive(Drop)]
+pub struct VerifiedSource {
+    pub verified: Verified,
+    pub registry: Registry,
+}
+
+/// Verifies a file's program with its maps and its context, and gives it back where it is refused.
+///
+/// Errors: what the verifier refuses, 20 to 39, with the slot; or want of memory, which is 13.
+pub fn verify_source(alloc: Global, source: Source) -> Result<VerifiedSource, RefusedFile>
+    requires { source.ctx_len ≤ CTX_BYTES }
+    ensures program { IfOk result (λ v. v.verified.program ≡ source.program) }
+    ensures registry { IfOk result (λ v. v.registry ≡ source.registry) }
+    ensures shapes { IfOk result (λ v. v.verified.shapes ≡ shapes_of_maps source.registry.maps) }
+    ensures context { IfOk result (λ v. v.verified.ctx_len ≡ source.ctx_len) }
+    ensures verified { OnOk result
+        (IsVerified source.program (shapes_of_maps source.registry.maps) source.ctx_len) }
+    ensures graph { OnOk result (HasGoodGraph source.program) }
+    ensures refused { (bytes : List ℕ) → IsSourceOf bytes source →
+        IfErr result (λ r. IsCheckedRefusal bytes r.verdict) }
+{
+    let shapes = shapes_of(alloc, &source.registry)?;
+    let Source {
+        program,
+        registry,
+        ctx_len,
+    } = source;
+    match verify_or_return(alloc, program, &shapes, ctx_len) {
+        Ok(verified) => Ok(VerifiedSource { verified, registry }),
+        Err(refused) => Err(RefusedFile {
+            verdict: Verdict::Program(refused.refusal),
+            program: Some(RefusedProgram {
+                source: Source {
+                    program: refused.program,
+                    registry,
+                    ctx_len,
+                },
+                refusal: refused.refusal,
+                known: refused.known,
+            }),
+        }),
+    }
 }

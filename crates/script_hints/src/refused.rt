@@ -2,18 +2,21 @@
 
 use crate::words::{SHOWN, words_of};
 use bpf_model::{
-    CTX_BYTES, EventRefusal, KEY_BYTES, MAX_ENTRIES, MAX_REUSE, MAX_SPARE, MapId, MapKind,
-    MapShape, ProgId, VALUE_BYTES,
+    CTX_BYTES, EventRefusal, KEY_BYTES, MAX_ENTRIES, MAX_REUSE, MAX_SPARE, MapId, MapShape, ProgId,
+    VALUE_BYTES,
 };
 use control::{LineRefusal, Session};
-use explanations::{Meaning, explain, meaning_of, meaning_of_event, slot_shown, write_meaning};
-use maps::MapFault;
-use program_files::{FileBytes, Verdict};
+use explanations::{
+    Meaning, explain_program, meaning_of, meaning_of_event, slot_shown, write_meaning,
+};
+use maps::{MapFault, Registry};
+use program_files::{Source, Verdict};
 use script_lines::number_of;
-use std::alloc::{AllocError, Global};
+use std::alloc::Global;
 use std::io::Write;
 use std::{io, str};
 use text_likeness::write_quoted;
+use verifier::ProgramRefusal;
 
 /// A word as text, if it is one.
 fn text_of(word: &[u8]) -> &str {
@@ -143,38 +146,14 @@ fn write_context<W: Write>(out: &mut W, session: &Session, words: &[&[u8]]) -> i
     )
 }
 
-/// The line of a program file that makes a map of this name and shape.
-fn map_line(alloc: Global, name: &str, shape: &MapShape) -> Result<String, AllocError> {
-    let (key, value, entries) = (shape.key_len, shape.value_len, shape.entries);
-    let (spare, reuse) = (shape.spare, shape.reuse_limit);
-    if shape.kind == MapKind::Hash {
-        format!(in alloc; "map {name} {key} {value} {entries} {spare} {reuse}\n")
-    } else {
-        format!(in alloc; "map {name} array {value} {entries}\n")
-    }
-}
-
-/// The lines of a program file above the slots, for a `load` of these words.
-fn head_of(alloc: Global, session: &Session, words: &[&[u8]]) -> Result<String, AllocError> {
-    let context = text_of(word_at(words, 1));
-    let mut text = format!(in alloc; "bpfrt 1\nctx {context}\n")?;
+/// The maps that a `load` of these words names, in their order; `None` where two names are one.
+fn maps_of(alloc: Global, session: &Session, words: &[&[u8]]) -> Option<Registry> {
+    let mut maps = Registry::new(alloc);
     for name in words.iter().skip(3) {
-        if let Some(shape) = shape_named(session, name) {
-            text.push_str(map_line(alloc, text_of(name), &shape)?.as_str())?;
-        }
+        maps.create(text_of(name), shape_named(session, name)?)
+            .ok()?;
     }
-    text.push_str("code\n")?;
-    Ok(text)
-}
-
-/// The program file that a `load` of these words says.
-fn file_of(alloc: Global, session: &Session, words: &[&[u8]]) -> Result<Vec<u8>, AllocError> {
-    let mut text = head_of(alloc, session, words)?.into_bytes();
-    for slot in word_at(words, 2).chunks(16) {
-        text.extend_from_slice(slot)?;
-        text.push(b'\n')?;
-    }
-    Ok(text)
+    Some(maps)
 }
 
 /// Writes the digits of the slot that is no instruction, if it is one slot.
@@ -198,10 +177,20 @@ fn write_unverified<W: Write>(
     out: &mut W,
     session: &Session,
     words: &[&[u8]],
-    verdict: &Verdict,
+    refusal: ProgramRefusal,
 ) -> io::Result<()> {
-    let file = FileBytes::Whole(file_of(alloc, session, words)?);
-    explain(alloc, &file, verdict, out)
+    let (Some(refused), Some(registry)) = (session.refused(), maps_of(alloc, session, words)) else {
+        return match meaning_of(&Verdict::Program(refusal)) {
+            Some(meaning) => write_meaning(out, meaning),
+            None => Ok(()),
+        };
+    };
+    let source = Source {
+        program: refused.program.copy(alloc)?,
+        registry,
+        ctx_len: usize::try_from(number_at(words, 1)).unwrap_or(0),
+    };
+    explain_program(alloc, &source, &[], refused.refusal, &refused.known, out)
 }
 
 /// Writes what in a line of these words is the cause of its refusal.
@@ -214,9 +203,7 @@ fn write_cause<W: Write>(
 ) -> io::Result<()> {
     match refusal {
         LineRefusal::Decode(fault) => write_slot(out, words, slot_shown(fault)),
-        LineRefusal::Program(refusal) => {
-            write_unverified(alloc, out, session, words, &Verdict::Program(*refusal))
-        }
+        LineRefusal::Program(refusal) => write_unverified(alloc, out, session, words, *refusal),
         LineRefusal::Event(EventRefusal::NoMap) => write_no_map(out, session, words),
         LineRefusal::Event(EventRefusal::BadLength) => write_misfit(out, session, words),
         LineRefusal::Event(EventRefusal::BadContext) => write_context(out, session, words),

@@ -21,7 +21,7 @@ returns-in-Ok-clause-accepted g c zero =
 pub returns-clause-refused : goal.returns-clause-refused
 returns-clause-refused g c one =
     let made = c.args.made in
-    let v = c.in-Err.verdict in (
+    let v = c.in-Err.refused.verdict in (
       v,
       not_so (verdict_number v ≡ memory_number) c.report_made.result c.report_made.ensures.memory one,
       c.in-Err.ensures.refused (file_text made.head.text made.program) c.source.ensures.says,

@@ -12,7 +12,7 @@ use Rattle.commands.proofs.pool.run_pool.Goals as goal
 
 pub returns-in-Err-program_of-clause-refused : goal.returns-in-Err-program_of-clause-refused
 returns-in-Err-program_of-clause-refused g c one =
-    let v = File c.in-Err-program_of.verdict in
+    let v = File c.in-Err-program_of.refused.verdict in
     let told = c.report_refusal.ensures in
     IfSome_then (g.R.Read.remaining c.args.input.now) c.in-Ok.ensures
     (λ bytes holds. (

@@ -17,7 +17,7 @@ returns-in-Ok-run_of-clause-ended g c zero =
 
 pub returns-clause-refused : goal.returns-clause-refused
 returns-clause-refused g c one =
-    let v = c.in-Err-run_of.refusal in
+    let v = c.in-Err-run_of.refused.refusal in
     IfSome_then (g.R.Read.remaining c.args.input.now) c.in-Ok.ensures
     (λ bytes holds. (
       v,
