@@ -188,7 +188,7 @@ fn write_unverified<W: Write>(
     let source = Source {
         program: refused.program.copy(alloc)?,
         registry,
-        ctx_len: usize::try_from(number_at(words, 1)).unwrap_or(0),
+        ctx_len: usize::try_from(number_of(word_at(words, 1)).unwrap_or(0)).unwrap_or(0),
     };
     explain_program(alloc, &source, &[], refused.refusal, &refused.known, out)
 }
