@@ -1,8 +1,10 @@
-use Rattle.bpf_model.proofs.Prelude.{◌≡◌, ◌∙◌, ◌∷◌, [], length, map, sym, ap, subst, arith, length-append, length-map, shapes_of_maps}
+use Rattle.bpf_model.proofs.Prelude.{◌≡◌, ◌∙◌, ◌∷◌, [], length, map, sym, ap, subst, arith, length-append, length-map, shapes_of_maps, IfOk}
 use Rattle.model_laws.proofs.Prelude.{IsPlainWithMaps}
 use Rattle.world.proofs.Prelude.{AreProgramsBound, program_of}
 use Rattle.world_laws.proofs.Prelude.{IsBoundTo}
 use Rattle.verifier.specs.declared.refusal.ProgramRefusal.TheVariants.{Memory}
+use Rattle.control.specs.MapAndLoad.{ReadReplies}
+use Rattle.control.specs.Refusals.{program_reply}
 use Rattle.control.proofs.GrownSetups.{bound-more}
 use Rattle.control.proofs.LoadReplies.{undecoded-reply, unverified-reply}
 use Rattle.control.proofs.setup.Setup.load_bound.Goals as goal
@@ -17,10 +19,13 @@ returns-in-Err-verify_or_return-clause-replies c =
     let d = c.in-Ok.ensures in
     let v = c.in-Err-verify_or_return.ensures in
     let shapes : c.deref.result.now ≡ c.args.bound.shapes.items = c.deref.ensures.value in
-    unverified-reply c.args.self.now c.args.code.now c.args.bound.shapes.items c.args.bound.maps.items c.args.ctx_len
+    -- what is kept for words is no part of what contracts see
+    subst (λ s. IfOk c.unverified.result (λ made. ReadReplies c.args.self.now c.args.code.now c.args.bound.shapes.items
+    c.args.bound.maps.items c.args.ctx_len (program_reply made) s)) (sym c.self.view_is)
+    (unverified-reply c.args.self.now c.args.code.now c.args.bound.shapes.items c.args.bound.maps.items c.args.ctx_len
     c.in-Ok.program c.in-Err-verify_or_return.refused.refusal c.unverified.result d.program d.found v.flaw_is
     (subst (λ x. IsPlainWithMaps c.in-Ok.program x → c.in-Err-verify_or_return.refused.refusal ≡ Memory) shapes v.plain_with_maps)
-    c.unverified.ensures.known c.unverified.ensures.refused
+    c.unverified.ensures.known c.unverified.ensures.refused)
 
 pub invariant_of-self-2 : goal.invariant_of-self-2
 invariant_of-self-2 c =
