@@ -91,10 +91,10 @@ fn write_places<W: Write>(
     indexes: &[usize],
     out: &mut W,
 ) -> io::Result<()> {
-    let mut before = "";
-    for index in indexes.iter().take(MOST_NAMED) {
-        write!(out, "{before}")?;
-        before = " or ";
+    for (number, index) in indexes.iter().enumerate().take(MOST_NAMED) {
+        if number > 0 {
+            write!(out, " or ")?;
+        }
         if let Some(insn) = told.source.program.instructions().get(*index) {
             let text = line_of(alloc, insn)?;
             write!(out, "`{text}` at ")?;
