@@ -144,7 +144,10 @@ pub fn run_pool<H: Threads + Wait + Sync, R: Read, W: Write, E: Write>(
     let program = match program_of(alloc, &file) {
         Ok(program) => program,
         Err(refused) => {
-            let refused = Refused::from(refused);
+            let refused = Refused {
+                refusal: CommandRefusal::File(refused.verdict),
+                program: refused.program,
+            };
             return report_refusal(alloc, Given::File(&file), &refused, in_words, err);
         }
     };

@@ -114,7 +114,10 @@ fn run_of(
     let source = file.source(alloc)?;
     let opened = verify_source(alloc, source)?;
     if single.context.len() != opened.verified.ctx_len() {
-        return Err(Refused::from(CommandRefusal::Event(EventRefusal::BadContext)));
+        return Err(Refused {
+            refusal: CommandRefusal::Event(EventRefusal::BadContext),
+            program: None,
+        });
     }
     let puts = puts_of(alloc, &opened.registry, &single.elements)?;
     let context = array_of(&single.context);
@@ -124,7 +127,12 @@ fn run_of(
     };
     let ended = match ran.outcome {
         RunEnd::Exited(ended) => ended,
-        RunEnd::NotDone(_) => return Err(Refused::from(CommandRefusal::NoPlace)),
+        RunEnd::NotDone(_) => {
+            return Err(Refused {
+                refusal: CommandRefusal::NoPlace,
+                program: None,
+            });
+        }
     };
     match text_of(alloc, ended, ran, tells, single) {
         Ok(text) => Ok(text),
