@@ -1,7 +1,7 @@
 -- What `asm` writes.
 use Rattle.std.specs.Prelude.{ℕ, List, Option}
 use Rattle.std.specs.Io.KnownBytes.{Appends}
-use Rattle.program_texts.specs.Assembled.{IsAssembled}
+use Rattle.texts.specs.Assembled.{IsAssembled}
 use Rattle.command_words.specs.declared.request.AsmForm.{AsmForm}
 use Rattle.command_words.specs.declared.request.AsmForm.TheVariants as form
 use Rattle.commands.specs.Sources.{IsRead}

@@ -1,6 +1,6 @@
 -- What `check` writes of a program file, or of a text of instructions, and how it refuses them.
 use Rattle.std.specs.Prelude.{◌⊎◌, ℕ, Bool, true, false, List, Option}
-use Rattle.program_texts.specs.Assembled.{IsAssembled}
+use Rattle.texts.specs.Assembled.{IsAssembled}
 use Rattle.commands.specs.Outputs.{RefusesFile, WritesAccepted}
 use Rattle.commands.specs.Sources.{IsRead, IsRefusedText}
 

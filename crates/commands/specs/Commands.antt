@@ -3,7 +3,7 @@ use Rattle.std.specs.Prelude.{◌≡◌, ℕ, List, Option, ⊤, false, true, co
 use Rattle.std.specs.Io.KnownBytes.{Appends}
 use Rattle.command_words.specs.declared.request.BpfrtCommand.{BpfrtCommand}
 use Rattle.command_words.specs.declared.request.BpfrtCommand.TheVariants.{Check, Disasm, Asm, Script, Version, Pool, Run, Trace, Filter}
-use Rattle.program_texts.specs.Filters.{IsRefusedByFilter}
+use Rattle.texts.specs.Filters.{IsRefusedByFilter}
 use Rattle.commands.specs.Asm.{WritesCode}
 use Rattle.commands.specs.Filters.{WritesFilter}
 use Rattle.commands.specs.Checking.{RefusesChecked, WritesChecked}

@@ -2,7 +2,7 @@
 use Rattle.std.specs.Prelude.{ℕ, List, Option}
 use Rattle.std.specs.Io.KnownBytes.{Appends}
 use Rattle.classic_program.specs.declared.data.Data.{Data}
-use Rattle.program_texts.specs.Filters.{IsFilterFile}
+use Rattle.texts.specs.Filters.{IsFilterFile}
 
 -- what `filter` adds to the output
 abbrev pub WritesFilter : Data → Option (List ℕ) → Option (List ℕ) → List ℕ → Type 0

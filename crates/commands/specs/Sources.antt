@@ -3,9 +3,9 @@ use Rattle.std.specs.Prelude.{◌≡◌, ◌≢◌, ◌⊎◌, ℕ, List, ◌++�
 use Rattle.std.specs.Str.{IsUtf8}
 use Rattle.asm_source.specs.Head.{head_text}
 use Rattle.asm_source.specs.LineEnds.{with_feeds}
-use Rattle.program_texts.specs.Assembled.{IsSplit, IsTextFault}
-use Rattle.program_texts.specs.declared.assembly.TextFault.{TextFault}
-use Rattle.program_texts.specs.declared.assembly.TextFault.TheVariants.{Memory}
+use Rattle.texts.specs.Assembled.{IsSplit, IsTextFault}
+use Rattle.texts.specs.declared.assembly.TextFault.{TextFault}
+use Rattle.texts.specs.declared.assembly.TextFault.TheVariants.{Memory}
 
 -- The lines above `code` are read without comments, and without blanks that are too many.
 abbrev pub read_parts : Option (List ℕ) → List ℕ → List ℕ

@@ -15,12 +15,11 @@ use asm::AsmFault;
 use bpf_model::CTX_BYTES;
 use command_words::AsmForm;
 use explanations::write_meaning;
-use program_files::{LoadFault, Verdict, read_text};
-use program_texts::{Assembled, TextFault, assemble_text, explain_text, has_head};
+use program_files::{LoadFault, Verdict, read_text, write_line};
 use std::alloc::{AllocError, Global};
 use std::io;
 use std::io::{Read, Write};
-use text_likeness::write_line;
+use texts::{Assembled, TextFault, assemble_text, explain_text, has_head};
 
 /// What is asked for of what was made of a text. The error is that memory ran out.
 fn text_in(alloc: Global, form: AsmForm, made: Assembled) -> Result<Vec<u8>, AllocError>

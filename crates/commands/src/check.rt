@@ -16,10 +16,10 @@ use crate::source_text::{SourceText, source_of};
 use crate::streams::{read_failed_in_words, write_status};
 use command_words::Checking;
 use program_files::{Accepted, FileBytes, RefusedFile, check, check_source, read_file, read_text};
-use program_texts::{Assembled, assemble_text};
 use std::alloc::Global;
 use std::io;
 use std::io::{Read, Write};
+use texts::{Assembled, assemble_text};
 use verifier_log::write_log;
 
 fn write_line<W: Write>(out: &mut W, accepted: &Accepted) -> io::Result<()>

@@ -7,11 +7,10 @@ ghost use Rattle.program_files.specs.declared.contexts.ContextsFault.TheVariants
 use bpf_model::{CtxBytes, EventRefusal};
 use command_words::{ContextForm, ContextsFile};
 use explanations::{meaning_of_event, write_meaning};
-use program_files::{ContextsFault, contexts_in_lines, packed_contexts};
+use program_files::{ContextsFault, contexts_in_lines, packed_contexts, write_line};
 use std::alloc::Global;
 use std::io;
 use std::io::Write;
-use text_likeness::write_line;
 
 /// A context of so many bytes, all zero.
 fn zeros(count: usize) -> CtxBytes

@@ -1,6 +1,6 @@
 //! Writes the program file of a classic program.
 ghost use Rattle.std.specs.Prelude.{◌≡◌, ◌≢◌, ◌⊎◌, IfSome};
-ghost use Rattle.program_texts.specs.Filters.{IsRefusedByFilter};
+ghost use Rattle.texts.specs.Filters.{IsRefusedByFilter};
 ghost use Rattle.commands.specs.Filters.{WritesFilter};
 
 use crate::meanings::meaning_of_filter;
@@ -9,10 +9,10 @@ use crate::streams::{read_failed_in_words, write_status, write_text};
 use classic::{Data, ReadFault};
 use explanations::write_meaning;
 use program_files::{Verdict, read_text};
-use program_texts::{FilterFault, explain_filter, make_file};
 use std::alloc::Global;
 use std::io;
 use std::io::{Read, Write};
+use texts::{FilterFault, explain_filter, make_file};
 
 /// The number of a fault of a classic program, and its line or instruction, if it has one.
 fn place_of(why: &FilterFault) -> (u8, Option<usize>) {

@@ -8,8 +8,8 @@ use explanations::{Meaning, meaning_of, meaning_of_event};
 use insn_codec::DecodeFault;
 use job_queue::PoolFault;
 use program_files::{LoadFault, Verdict};
-use program_texts::{FilterFault, TextFault};
 use std::alloc::{AllocError, Global};
+use texts::{FilterFault, TextFault};
 
 /// The name of a refusal, and what it means.
 #[derive(Drop)]

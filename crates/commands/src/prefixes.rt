@@ -1,8 +1,8 @@
 //! Digits with `0x` before them, in a line of a program file, where they stand alone.
 
-use script_hints::has_prefix;
 use std::io;
 use std::io::Write;
+use texts::has_prefix;
 
 /// What is said of a line with such digits.
 fn words_of(line: &[u8]) -> &'static str {

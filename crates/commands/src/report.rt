@@ -16,10 +16,10 @@ use command_words::WordsFault;
 use explanations::{explain, explain_program, write_meaning};
 use job_queue::PoolFault;
 use program_files::{FileBytes, RefusedProgram, Verdict};
-use program_texts::write_source_line;
 use std::alloc::Global;
 use std::io;
 use std::io::Write;
+use texts::write_source_line;
 
 /// What a command was given.
 #[derive(Clone, Copy)]

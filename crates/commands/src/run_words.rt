@@ -8,10 +8,10 @@ use command_words::{MapElement, SingleRun};
 use hex::encode;
 use maps::Registry;
 use program_files::{FileBytes, HEADING, Source};
-use script_hints::write_length;
 use std::alloc::Global;
 use std::io;
 use std::io::Write;
+use texts::write_length;
 use world::World;
 
 /// Writes the names of a file's maps.

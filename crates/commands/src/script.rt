@@ -4,9 +4,9 @@ ghost use Rattle.commands.specs.Scripts.{AnswersAll, AnswersBefore};
 
 use crate::report::report_fault;
 use control::{ScriptFault, run_script, watch_script};
-use script_hints::Explaining;
 use std::alloc::Global;
 use std::io::{Read, Write};
+use texts::Explaining;
 
 /// Says on standard error why a script ended before its input, and answers the status.
 fn report_stop<E: Write>(err: &mut E, why: ScriptFault) -> u8

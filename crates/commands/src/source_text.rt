@@ -3,9 +3,9 @@ ghost use Rattle.std.specs.Prelude.{◌≡◌, ℕ, List, IfOk};
 ghost use Rattle.commands.specs.Sources.{IsRead, IsReadByParts};
 
 use asm_source::{Tokens, fed_text, head_text};
-use program_texts::parts_of;
 use std::alloc::{AllocError, Global};
 use std::str;
+use texts::parts_of;
 
 /// A text whose lines end by line feeds, and what is read of it.
 #[derive(Drop)]

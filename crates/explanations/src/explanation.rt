@@ -11,12 +11,14 @@ use crate::slot_lines::write_slot_line;
 use bpf_model::Insn;
 use disasm::line_of;
 use insn_codec::{DecodeFault, InsnFlaw};
-use program_files::{FileBytes, HEADING, LoadFault, Source, Verdict, load};
+use program_files::{
+    FileBytes, HEADING, LoadFault, Source, Verdict, likeness_of, load, write_likeness,
+    write_wrong_line,
+};
 use register_kinds::{InsnFault, RegKind};
 use std::alloc::Global;
 use std::io;
 use std::io::Write;
-use text_likeness::{likeness_of, write_likeness, write_wrong_line};
 use verifier::{AbsState, ProgramRefusal};
 use verifier_log::write_kind;
 

@@ -5,6 +5,7 @@ ghost use Rattle.program_files.specs.Files.{HoldsBytes};
 ghost use Rattle.bpf_model.specs.View.{AreNewMaps};
 ghost use Rattle.program_files.specs.Checks.{IsSourceOf, IsDecodeRefusal};
 
+use crate::likeness::SEEN;
 use crate::loader::{HEADING, load};
 use crate::verdict::Verdict;
 use bpf_model::MAX_SLOTS;
@@ -14,7 +15,6 @@ use script_stream::read_some;
 use std::alloc::{AllocError, Global};
 use std::io;
 use std::io::{ErrorKind, Read};
-use text_likeness::SEEN;
 
 /// How many bytes are read at once.
 const CHUNK: usize = 4096;

@@ -59,6 +59,9 @@ pub fn event_of(words: &[&str]) -> Option<Event> {
             prog: ProgId::new(number(prog)),
             ctx: bytes(ctx),
         },
+        ["step", run] => Event::Step {
+            run: RunId::new(number(run)),
+        },
         ["drop", run] => Event::Drop {
             run: RunId::new(number(run)),
         },

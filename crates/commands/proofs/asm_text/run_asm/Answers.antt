@@ -1,6 +1,6 @@
 use Rattle.bpf_model.proofs.Prelude.{◌∙◌, subst, IfSome_then, text}
 use Rattle.program_files.specs.Heads.{file_text}
-use Rattle.program_texts.specs.Assembled.{IsAssembled, IsTextFault}
+use Rattle.texts.specs.Assembled.{IsAssembled, IsTextFault}
 use Rattle.commands.specs.Sources.{IsRead}
 use Rattle.commands.proofs.asm_text.run_asm.Goals as goal
 

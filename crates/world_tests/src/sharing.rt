@@ -1,0 +1,69 @@
+//! Worlds that workers share, and what is asked of them.
+ghost use Rattle.std.specs.Prelude.{◌≡◌};
+
+use crate::making::{Setup, world_of};
+use crate::text::event_of;
+use bpf_model::{Event, MAX_JOURNAL};
+use shared::{Counters, MAX_WORKERS, Shared, Workers, is_quiet};
+use std::alloc::{AllocError, Global};
+use std::process::Abort;
+use std::sync::ledger::{Blank, Ledger};
+use std::test::Fail;
+use world::{Loaded, World};
+
+/// Two maps, the second with longer values; and five programs: 1 and 2 look up the keys 0 and 1, 3 exits with the byte of its context,
+/// and 4 is 1 once more, on the second map.
+const SCENERY: &str = "\
+map 4 8 4 4 100
+map 4 16 4 4 100
+prog 0: EXIT_ONE
+prog 0 0: LOOKUP
+prog 0 0: mov64 r6, 0; callbtf 1; stw [r10-4], 1; mov64 r2, r10; add64 r2, -4; \
+ldmap r1, 0; call 1; jeq r0, 0, +1; ldxdw r6, [r0+0]; callbtf 2; mov64 r0, r6; exit
+prog 1: ldxb r0, [r1+0]; exit
+prog 0 1: LOOKUP";
+
+/// The event of a line, which has no more than five words.
+pub fn event<R: Abort>(rt: &R, line: &str) -> Event {
+    let mut words = [""; 5];
+    for (place, word) in words.iter_mut().zip(line.split(' ')) {
+        *place = word;
+    }
+    let count = line.split(' ').count().min(5);
+    event_of(&words[..count]).expect(rt, "an event")
+}
+
+/// The program that exits with 1, without context and maps.
+pub fn one_more(alloc: Global) -> Result<Loaded, Fail> {
+    let mut setup = Setup::read(alloc, "prog 0: EXIT_ONE")?;
+    match setup.loaded.pop() {
+        Some(loaded) => Ok(loaded),
+        None => Err(Fail::from("no program")),
+    }
+}
+
+/// A world with the maps and the programs of `SCENERY`.
+pub fn scenery(alloc: Global) -> Result<World, Fail> {
+    let Setup { shapes, loaded, .. } = Setup::read(alloc, SCENERY)?;
+    Ok(world_of(alloc, &shapes, loaded)??)
+}
+
+/// Shares a world among so many workers, 1 to 8, with a journal of so many entries, if it is said how many.
+pub fn shared_of<L: Ledger + Send + Sync, R: Abort>(
+    rt: &R,
+    alloc: Global,
+    world: World,
+    blank: Blank,
+    workers: u8,
+    limit: Option<usize>,
+) -> Result<(Shared<L>, Workers<L>, Counters), AllocError>
+    requires name { blank.name ≡ L.name }
+    requires parts { (blank.parts ≡ L.parts) × (blank.parts ≡ workers) }
+{
+    assert!(rt; is_quiet(&world) && 0 < workers && workers <= MAX_WORKERS);
+    let Some(limit) = limit else {
+        return Shared::<L>::new(alloc, world, workers, blank);
+    };
+    assert!(rt; 0 < limit && limit <= MAX_JOURNAL);
+    Shared::<L>::with_limit(alloc, world, workers, limit, blank)
+}
