@@ -92,7 +92,11 @@ fn no_command_named(alloc: Global, word: &str, tip: &str) -> Result<String, Allo
 }
 
 /// What is said of a first word that is no command, by `clap` where there is no tip of ours.
-fn told_of_command(alloc: Global, words: &[String], text: String) -> Result<String, AllocError> {
+fn text_of_unknown_command(
+    alloc: Global,
+    words: &[String],
+    text: String,
+) -> Result<String, AllocError> {
     let word = word_at(words, 1);
     if word == "help" && matches!(word_at(words, 2), "--help" | "-h") {
         return String::from_str(alloc, HELP_OF_HELP);
@@ -168,7 +172,7 @@ fn script_file(words: &[String]) -> Option<&str> {
 }
 
 /// What is said of a word that no argument of the command takes: `clap` has it in quotes.
-fn told_of_word(alloc: Global, words: &[String], text: &str) -> Result<String, AllocError> {
+fn text_of_unknown_word(alloc: Global, words: &[String], text: &str) -> Result<String, AllocError> {
     if let Some(file) = script_file(words) {
         let tip = format!(in alloc; "a script comes on standard input: `bpfrt script < {file}`")?;
         return with_tip(alloc, text, Some(tip.as_str()));
@@ -194,11 +198,15 @@ fn with_usage(alloc: Global, command: &str, text: String) -> Result<String, Allo
 }
 
 /// What is said of words with this error.
-fn told(alloc: Global, error: &clap::Error, words: &[String]) -> Result<String, AllocError> {
+fn text_of_error(
+    alloc: Global,
+    error: &clap::Error,
+    words: &[String],
+) -> Result<String, AllocError> {
     let text = format!(in alloc; "{error}")?;
     match error.kind() {
-        ErrorKind::InvalidSubcommand => told_of_command(alloc, words, text),
-        ErrorKind::UnknownArgument => told_of_word(alloc, words, text.as_str()),
+        ErrorKind::InvalidSubcommand => text_of_unknown_command(alloc, words, text),
+        ErrorKind::UnknownArgument => text_of_unknown_word(alloc, words, text.as_str()),
         ErrorKind::InvalidValue => with_usage(alloc, word_at(words, 1), text),
         ErrorKind::MissingRequiredArgument if has_word(words, "--map") => {
             with_tip(alloc, text.as_str(), Some(MAP_TIP))
@@ -216,6 +224,6 @@ pub(crate) fn words_fault(
     if error.kind() == ErrorKind::OutOfMemory {
         return Err(AllocError);
     }
-    let text = told(alloc, error, words)?;
+    let text = text_of_error(alloc, error, words)?;
     Ok(WordsFault::Usage(shown(alloc, text.as_str())?))
 }

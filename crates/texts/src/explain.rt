@@ -1,7 +1,7 @@
 //! What is wrong with a line, in words for people.
 
 use crate::naming::{comment_words, parts_words, quoted};
-use crate::other_names::no_name;
+use crate::other_names::unknown_mnemonic;
 use asm::{AsmFault, assemble};
 use asm_source::{is_name, is_register, number_in};
 use disasm::Mnemonic;
@@ -242,6 +242,6 @@ pub fn explain_line(alloc: Global, line: &str, source: &str) -> Result<Option<St
     let (name, text) = line.split_once(' ').unwrap_or((line, ""));
     match mnemonic_named(name) {
         Some(mnemonic) => instruction_words(alloc, name, places_of(mnemonic), text, source),
-        None => Ok(Some(no_name(alloc, name, text)?)),
+        None => Ok(Some(unknown_mnemonic(alloc, name, text)?)),
     }
 }

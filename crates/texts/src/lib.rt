@@ -18,7 +18,7 @@ mod wrong_text;
 
 pub use assembly::{Assembled, TextFault, assemble_text};
 pub use explaining::Explaining;
-pub use heads::{Split, has_head, lines_in, parts_of};
+pub use heads::{Split, has_head, parts_of};
 pub use refused_line::write_length;
 pub use translation::{FilterFault, FilterFile, make_file};
 pub use wrong_command::has_prefix;

@@ -111,7 +111,11 @@ fn hint_of(word: &str, text: &str) -> Option<&'static str> {
 }
 
 /// What is said of a word that is no mnemonic, and behind which this text stands.
-pub(crate) fn no_name(alloc: Global, word: &str, text: &str) -> Result<String, AllocError> {
+pub(crate) fn unknown_mnemonic(
+    alloc: Global,
+    word: &str,
+    text: &str,
+) -> Result<String, AllocError> {
     let shown = quoted(alloc, word)?;
     if let Some(hint) = hint_of(word, text) {
         return format!(in alloc; "no instruction is called {shown}; {hint}");

@@ -1,5 +1,5 @@
 //! Worlds and the reference model beside them over lines of events.
-use crate::text::{bytes, event_of, number, told};
+use crate::text::{answer_text, bytes, event_of, number};
 use bpf_model::{Answer, CtxBytes, Event, KeyBytes, MapId, ProgId, RunId, Stat};
 use reference_model::Machine;
 use std::alloc::{AllocError, Global};
@@ -29,9 +29,9 @@ impl Pair {
     /// The reference model's answer, and behind it each answer of a world that is another.
     fn answer(&mut self, event: Event) -> Result<String, AllocError> {
         let answers = self.of_worlds(&event)?;
-        let mut text = told(self.alloc, &self.model.apply(event))?;
+        let mut text = answer_text(self.alloc, &self.model.apply(event))?;
         for answer in answers {
-            let other = told(self.alloc, &Ok(answer))?;
+            let other = answer_text(self.alloc, &Ok(answer))?;
             if other.as_str() != text.as_str() {
                 text.push_str(", and a world: ")?;
                 text.push_str(&other)?;

@@ -285,7 +285,7 @@ const LOADED: Scene = Scene {
 };
 
 /// What a worker is told.
-fn told<L: Ledger, R: Wait + Abort>(
+fn answer_to<L: Ledger, R: Wait + Abort>(
     rt: &R,
     alloc: Global,
     shared: &mut Shared<L>,
@@ -347,7 +347,7 @@ fn ask_often<L: Ledger, R: Wait + Abort>(
 ) -> Result<(), Fail> {
     let (times, ask, wanted) = row;
     for _ in 0..*times {
-        let text = told(rt, alloc, shared, worker, counters, ask)?;
+        let text = answer_to(rt, alloc, shared, worker, counters, ask)?;
         assert_eq!(rt; text.as_str(), *wanted);
     }
     Ok(())

@@ -107,7 +107,10 @@ fn tell_answer(alloc: Global, text: &mut String, answer: &Answer) -> Result<(), 
 }
 
 /// The text of an answer, or why there is none.
-pub fn told(alloc: Global, answer: &Result<Answer, ModelFault>) -> Result<String, AllocError> {
+pub fn answer_text(
+    alloc: Global,
+    answer: &Result<Answer, ModelFault>,
+) -> Result<String, AllocError> {
     let mut text = String::new(alloc);
     match answer {
         Ok(answer) => tell_answer(alloc, &mut text, answer)?,
