@@ -1,5 +1,5 @@
 //! Makes a table, its readers' seats and its writer.
-ghost use Rattle.std.specs.Prelude.{◌≡◌, ◌+◌, ◌*◌, ◌/◌, ◌<◌, ◌≤◌, [], length, slice_index, vec_len, IfOk, OnOk, All, ℕ};
+ghost use Rattle.std.specs.Prelude.{◌≡◌, ◌<◌, ◌≤◌, ◌/◌, [], length, IfOk, OnOk, All};
 ghost use Rattle.std.specs.List.{range_with_len};
 ghost use Rattle.read_table.specs.Law.{writer_after, count_of};
 ghost use Rattle.read_table.specs.Limits.{most_table_slots, most_readers, word_bytes};
@@ -12,18 +12,7 @@ use crate::writer::Writer;
 use crate::{SECTION_STRIDE, TableShape, View};
 use atomic_table::Seat;
 use std::alloc::{AllocError, Global};
-
-/// So many zeros.
-pub(crate) fn zeros(alloc: Global, count: usize) -> Result<Vec<u64>, AllocError>
-    ensures len { IfOk result (λ v. vec_len v ≡ count) }
-    ensures zeros { IfOk result (λ v. (j : ℕ) → slice_index v.items j ≡ 0) }
-{
-    let mut v = Vec::with_capacity(alloc, count)?;
-    for _ in 0..count {
-        v.push_reserved(0);
-    }
-    Ok(v)
-}
+use table_words::zeros;
 
 /// The seats of all readers, in order.
 fn deal_all(

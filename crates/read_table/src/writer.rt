@@ -13,7 +13,6 @@ ghost use Rattle.read_table.specs.Law.{writer_after};
 
 use crate::View;
 use crate::by_key::find_in;
-use crate::setup::zeros;
 use crate::sightings::{forget, no_sightings};
 use crate::table::ReadTable;
 use crate::words::home_of;
@@ -21,6 +20,7 @@ use crate::writing::{change, each_was_outside, take_nearest, take_out, write_slo
 use atomic_table::Seat;
 use std::alloc::{AllocError, Global};
 use std::marker::Model;
+use table_words::zeros;
 
 /// The header of a slot that was linked and unlinked 2^62 times. It is never linked again.
 const LAST_HEADER: u64 = 1 << 63;
