@@ -4,8 +4,8 @@
  * Programs in the BPF instruction set are verified when they are opened, and run over what the host lends. docs/EMBEDDING.md shows
  * hosts in several languages, docs/REFUSALS.md has the numbers of refusals.
  *
- * A handle is a struct of two words. The host owns it, and sets all of it to zero before its first use: closed. What a handle
- * holds, the library owns, until it is closed.
+ * A handle is a struct of two words. The host owns it, and sets all of it to zero before its first use: closed. The library owns
+ * what a handle holds, until it is closed.
  *
  * Each call answers 0 or more, or a negative number of errno.h:
  *
@@ -22,10 +22,10 @@
  *
  *   - A handle is all zeros, or was written last by these calls. It is not copied: each copy would free the same memory. It may be
  *     moved: copied, if its old place is then set to zero.
- *   - No two calls at once take the same handle. Who uses a handle opens those of other threads from it (bpfrt_prog_share,
- *     bpfrt_table_reader). A handle goes from one thread to another by a lock, a start or a join.
- *   - A pointer leads to as many bytes, or items, as its length says. It may be null where that is 0,
- *     and is answered -EINVAL where it is not. `why` and `value` may be null.
+ *   - No two calls at once take the same handle. Open the handles of other threads from yours (bpfrt_prog_share,
+ *     bpfrt_table_reader). Hand a handle over by a lock, a start or a join.
+ *   - A pointer leads to as many bytes, or items, as its length says. It may be null where that is 0; elsewhere the answer is
+ *     -EINVAL. `why` and `value` may be null.
  *   - Memory that a call writes is none that it reads.
  *   - No call comes from a signal handler, or from the child of a fork of a process with threads.
  *   - malloc, realloc and free are those of one allocator, and align a block to each power of two up to 16 that divides its size.
@@ -64,8 +64,8 @@ struct bpfrt_reader {
 	uint32_t state;
 };
 
-/* Why no program was opened: its number in docs/REFUSALS.md, where the fault is, and in words what it is. The number is 0 where a pointer
-   is null that may not be. */
+/* Why no program was opened: the number in docs/REFUSALS.md, the place, and what is wrong, in words. The number is 0 where a
+   pointer is null that may not be. */
 enum bpfrt_place {
 	BPFRT_NOWHERE = 0,
 	BPFRT_SLOT = 1,        /* of the program, from 0 */
@@ -85,7 +85,7 @@ struct bpfrt_refusal {
 enum bpfrt_map_type { BPFRT_MAP_TYPE_HASH = 1, BPFRT_MAP_TYPE_ARRAY = 2 };
 
 /* A map. A hash map has keys of 1 to 64 bytes, values of 1 to 256, 1 to 4096 entries, and 0 to 4096 spare slots for elements that
-   wait for their grace period; a slot is used 1 to 4294967295 times. An array has keys of 4, no spare slot, and uses each once. */
+   wait for their grace period; a slot is used 1 to 4294967295 times. An array has keys of 4 bytes, spare 0, and reuse_limit 1. */
 struct bpfrt_map_shape {
 	uint32_t type; /* enum bpfrt_map_type */
 	uint32_t key_size;
@@ -112,14 +112,13 @@ struct bpfrt_packet {
 	uint32_t len;
 };
 
-/* Whose the values of a table are. With BPFRT_TABLE_PER_READER each reader has a value of its own under a key, and no two threads
-   store to the same: so counters lose nothing. An update sets all of them, and a lookup gives their sums. */
+/* Who shares the values of a table. With BPFRT_TABLE_PER_READER each reader has its own value under a key, so no two threads store
+   to the same one, and counters lose nothing. An update sets all of them, and a lookup gives their sums. */
 enum bpfrt_table_values { BPFRT_TABLE_SHARED = 0, BPFRT_TABLE_PER_READER = 1 };
 
 /* A table has at most 64 readers, 16777216 buckets, 16777216 elements, and 8 words, of 8 bytes, in a key and in a value. Programs run
-   over one that has at most 131072 elements. It takes one key fewer than it has elements. A key has its place in one of two buckets,
-   of 8 places each, which `first` and `second` choose: numbers that the host draws at random, and tells nobody, or keys could be
-   chosen that fall together. */
+   over one that has at most 131072 elements. It takes one key fewer than it has elements. A key lies in one of two buckets of 8
+   places, which `first` and `second` choose. Draw these at random and tell nobody, or others can choose keys that fall together. */
 struct bpfrt_table_shape {
 	uint32_t readers;
 	uint32_t buckets; /* 1 or more: bpfrt_table_buckets */
@@ -396,7 +395,7 @@ static inline int32_t bpfrt_map_delete_elem(struct bpfrt_world *world, uint32_t 
 	return bpfrt0_map_delete_elem(world, map, bpfrt_some(key), key_size);
 }
 
-/* Writes the least key of a map above a key, in the order of bytes, and with a key of no bytes the least of all. The key need not be
+/* Writes the map's least key above `key`, in the order of bytes; of a key of no bytes the least of all. The key need not be
    in the map, and is other memory than `next`. -ENOENT where there is none; -ENXIO; -EINVAL where the map's keys have another length
    than `next`, or `key` is longer than 64 bytes. */
 static inline int32_t bpfrt_map_get_next_key(struct bpfrt_world *world, uint32_t map, const void *key, size_t key_size, void *next,
@@ -438,7 +437,7 @@ static inline int32_t bpfrt_world_drop(struct bpfrt_world *world, uint32_t run)
 	return bpfrt0_world_drop(world, run);
 }
 
-/* A grace period may end, and the next begin. */
+/* Ends the grace period, if no section that it awaits is open, and begins the next. */
 static inline int32_t bpfrt_world_advance(struct bpfrt_world *world)
 {
 	return bpfrt0_world_advance(world);
@@ -485,13 +484,13 @@ static inline int32_t bpfrt_table_reader(struct bpfrt_reader *reader, struct bpf
 }
 
 /* Puts a value under a key; with BPFRT_TABLE_PER_READER those of all readers, one behind another. A run finds the old value or the
-   new one, and misses no key that is there. Flags as of bpfrt_map_update_elem. A key that is there takes a free element, too, and the
-   old one waits for the runs that may have found it. A new key leaves one free, so that values can be put where all others are linked.
-   Where too few are free, those are reclaimed first that no run can hold. Where both buckets of a new key are full, an element of them
+   new one, and misses no key that is there. Flags as of bpfrt_map_update_elem. A value for a key that is there takes a free
+   element, too, and the old one waits for the runs that may have found it. A new key leaves one free, so that values can be
+   replaced where all others are linked. Where too few are free, the call first reclaims those that no run can hold. Where both buckets of a new key are full, an element of them
    is moved to the other bucket of its own key, if that has room. No run misses it, and what runs store there stays. -EEXIST, -ENOENT.
    -ENOSPC where still too few are free, until runs end or a key is removed. -E2BIG where both buckets of a new key are full, and no
-   element there can be moved. -EAGAIN where an element could be moved, but a run stayed in one section for some 20
-   milliseconds; each stands where it stood: call again. The call waits for one reader after another, that long at most for each, and
+   element there can be moved. -EAGAIN where an element could be moved, but a run stayed in one section for some 20 milliseconds;
+   none was moved: call again. The call waits for one reader after another, that long at most for each, and
    keeps its processor busy. With more busy threads than processors, runs wait inside their sections: on 4 processors a call took 35 ms on
    average beside 8 readers, 520 beside 32. -EINVAL for a wrong length or flag. */
 static inline int32_t bpfrt_table_update_elem(struct bpfrt_table *table, const uint64_t *key, size_t key_words, const uint64_t *value,
@@ -507,17 +506,17 @@ static inline int32_t bpfrt_table_update_elem(struct bpfrt_table *table, const u
    different ones. A host that sets and removes nothing from this call until all threads have gone over needs none of the first five rules
    (examples/hosts/grow.c).
 
-   - From the first call on, also one that fails, the host sets and removes keys in both tables. No copy removes a key: one that is removed
-     from the old table alone stays in the larger.
-   - It changes the larger one first. So a thread that goes over finds there each change of the host's that it found in the old one.
-   - What the larger one refuses to set, the host does not set in the old one.
-   - The old one may be nearly full. What it refuses, the host tries again or takes back in the larger: it removes a new key there. A value
-     that it replaced there, it sets as it was.
+   - From the first call on, also one that fails, set and remove keys in both tables. No copy removes a key: one removed from the
+     old table alone stays in the larger.
+   - Change the larger one first. So a thread that goes over finds there each of your changes that it found in the old one.
+   - Where the larger one refuses to set a key, do not set it in the old one.
+   - The old one may be nearly full. Where it refuses, try again, or undo the change in the larger: remove a new key there, or set a
+     replaced value as it was.
    - After a call that failed, the larger one lacks some keys. Set there with the flags 0, and let the old one tell which keys are there.
-   - Once a call has answered 0, the host opens a reader of the larger table for each thread, and hands it over. No thread opens its own,
-     since bpfrt_table_reader takes the table's handle.
-   - The thread closes its old reader between two runs, and takes the new one. That was opened after the copy, so it finds each key that was
-     copied and that the host keeps. When all have gone over, the host closes the old table.
+   - Once a call has answered 0, open a reader of the larger table for each thread, and hand it over. No thread opens its own, since
+     bpfrt_table_reader takes the table's handle.
+   - The thread closes its old reader between two runs, and takes the new one. This was opened after the copy, so it finds each
+     copied key that you keep. When all have gone over, close the old table.
    - What runs store in a value after it was copied stays in the old table. So do not copy again once a program that stores has run over
      the larger one. A copy would put the old words over what it stored.
    - Readers that are opened in the order of the old ones go on with their own values (BPFRT_TABLE_PER_READER).
@@ -554,9 +553,8 @@ static inline int32_t bpfrt_table_delete_elem(struct bpfrt_table *table, const u
 	return bpfrt0_table_delete_elem(table, key ? key : bpfrt_no_values(), key_words);
 }
 
-/* Writes the key that comes next behind a key, in the table's own order. Behind a null pointer, and behind a key that is not there, the
-   first of all comes. A walk gives each time the key that it met last. It meets each key that stays, and once, unless a key that it gives
-   was removed. A key that is replaced stays. A new key that is put between two calls may move another one, which the walk may then miss or
+/* Writes the key that comes after `key`, in the table's own order: the first of all, if `key` is null or is not there. A walk gives
+   each time the key that it met last. It meets each key that stays once, unless a key that it gives was removed. A key that is replaced stays. A new key that is put between two calls may move another one, which the walk may then miss or
    meet twice. Where the key that is given was moved, the walk goes on from its new place. -ENOENT where none comes behind; -EINVAL. */
 static inline int32_t bpfrt_table_get_next_key(struct bpfrt_table *table, const uint64_t *key, size_t key_words, uint64_t *next)
 {
