@@ -98,3 +98,11 @@ fn chosen_keys_are_linked(rt: HostRuntime) -> Result<(), Fail> {
     assert!(rt; count_two(&table, &mut writer) == 1024);
     Ok(())
 }
+
+/// The text of a shape, as a log may have it, tells nothing of its secret.
+#[test]
+fn secrets_are_not_told(rt: HostRuntime) -> Result<(), Fail> {
+    let text = format!(in rt.alloc(); "{:?}", SIX)?;
+    assert!(rt; text.contains("secret: Secret }") && !text.contains("1311768467463790320"));
+    Ok(())
+}

@@ -13,7 +13,7 @@ use std::sync::Wait;
 use std::sync::ledger::{Blank, Ledger};
 use std::test::Fail;
 use std::thread::Threads;
-use worker_pool::{Job, MAX_JOBS, Report, StopCause, Trail, run_jobs};
+use worker_pool::{Job, MAX_JOBS, Outcome, Report, StopCause, Trail, run_jobs};
 
 /// A call of a pool: so many jobs, of these programs and contexts in turn, by so many threads; and their outcomes in turn,
 /// or the code of the fault with which it ends.
@@ -301,4 +301,46 @@ fn pools_serve_jobs(rt: HostRuntime) -> Result<(), Fail> {
         assert_eq!(rt; cause.code(), code);
     }
     Ok(())
+}
+
+/// How many jobs count in one element.
+const COUNTING: usize = 400;
+
+/// Whether each number from 1 to that of the jobs is the exit value of one.
+fn are_counted<T>(alloc: Global, report: &Report<T>) -> Result<bool, AllocError> {
+    let mut seen = vec![in alloc; false; COUNTING + 1]?;
+    for job in &report.jobs {
+        if let Outcome::Exit(number) = job.outcome {
+            if let Some(mark) = seen.get_mut(number as usize) {
+                *mark = true;
+            }
+        }
+    }
+    Ok(seen.iter().skip(1).all(|mark| *mark))
+}
+
+/// Eight workers at once add 1 to one element for each job, and lose none.
+fn count_together<L: Ledger + Send + Sync, R: Threads + Wait + Abort + Sync>(
+    rt: &R,
+    alloc: Global,
+    blank: Blank,
+) -> Result<(), Fail>
+    requires name { blank.name ≡ L.name }
+    requires parts { (blank.parts ≡ L.parts) × (blank.parts ≡ 8) }
+{
+    let mut world = scenery(alloc)?;
+    world.apply(&event(rt, "put 0 00000000 0000000000000000 0"));
+    let (shared, mut workers, _) = shared_of::<L, R>(rt, alloc, world, blank, 8, None)?;
+    let mut jobs = Vec::new(alloc);
+    for _ in 0..COUNTING {
+        jobs.push(job(5, &[0]))?;
+    }
+    let report = run_jobs(rt, alloc, &jobs, 8, &shared, &mut workers).expect(rt, "a report");
+    assert!(rt; are_counted(alloc, &report)?);
+    Ok(())
+}
+
+#[test]
+fn no_count_is_lost(rt: HostRuntime) -> Result<(), Fail> {
+    count_together::<Brand, _>(&rt, rt.alloc(), Blank::new(8))
 }

@@ -71,7 +71,7 @@ const CUT: Scene = Scene {
     limit: None,
     rows: &[
         (1, Ask::Program(0), "true"),
-        (1, Ask::Program(5), "false"),
+        (1, Ask::Program(6), "false"),
         (
             1,
             Ask::Act("put 0 00000000 0500000000000000 0"),
@@ -165,10 +165,10 @@ const EMPTIED: Scene = Scene {
     entries: &[ADVANCED, "None"],
 };
 
-/// Many steps of one run under one lock: program 1, on a key that is there, exits at its 12th step. A journal of 18 entries
-/// has 15 for this run, and of a second run its start and two moves.
+/// Many steps of one run under one lock: program 1, on a key that is there, exits at its 12th step. A journal of 20 entries
+/// has 15 for this run, and of another one later its start and two moves. Between them another run makes its one move.
 const STRETCHED: Scene = Scene {
-    limit: Some(18),
+    limit: Some(20),
     rows: &[
         (
             1,
@@ -178,6 +178,8 @@ const STRETCHED: Scene = Scene {
         (1, Ask::Act("start 1 -"), "Ok(Started(RunId { number: 0 }))"),
         (1, Ask::Run(0, 0), "Walk { moved: 0, end: Ok(Enough) }"),
         (1, Ask::Run(0, 4), "Walk { moved: 4, end: Ok(Enough) }"),
+        (1, Ask::Act("start 0 -"), "Ok(Started(RunId { number: 1 }))"),
+        (1, Ask::Run(1, 2), "Walk { moved: 1, end: Ok(Exits) }"),
         (1, Ask::Run(0, 100), "Walk { moved: 7, end: Ok(Exits) }"),
         (1, Ask::Act("step 0"), "Ok(Exited(9))"),
         (1, Ask::Run(0, 5), "Walk { moved: 0, end: Ok(Refused) }"),
@@ -188,9 +190,9 @@ const STRETCHED: Scene = Scene {
             Ask::Run(0, 100),
             "Walk { moved: 2, end: Err(JournalFull) }",
         ),
-        (1, Ask::Made, "18"),
+        (1, Ask::Made, "20"),
     ],
-    left: "0 before, 18 of 18, Stat { linked: 0, unlinked: 0, given: 0, worn: 0, runs: 0, open: 0 }, Stat { linked: 1, unlinked: 0, given: 0, worn: 0, runs: 1, open: 1 }",
+    left: "0 before, 20 of 20, Stat { linked: 0, unlinked: 0, given: 0, worn: 0, runs: 0, open: 0 }, Stat { linked: 1, unlinked: 0, given: 0, worn: 0, runs: 2, open: 1 }",
     entries: &[
         "Some(Entry { worker: 0, event: Update { map: MapId { number: 0 }, key: [0, 0, 0, 0], value: [9, 0, 0, 0, 0, 0, 0, 0], flags: 0 }, answer: Ret(Ok(())) })",
         STARTED_LOOKUP,
@@ -198,6 +200,8 @@ const STRETCHED: Scene = Scene {
         MOVED,
         MOVED,
         MOVED,
+        "Some(Entry { worker: 0, event: Start { prog: ProgId { number: 0 }, ctx: [] }, answer: Started(RunId { number: 1 }) })",
+        "Some(Entry { worker: 0, event: Step { run: RunId { number: 1 } }, answer: Moved })",
         MOVED,
         MOVED,
         MOVED,
@@ -257,30 +261,39 @@ const COUNTED: Scene = Scene {
     ],
 };
 
-/// A program is added where no run slot is occupied. The journal begins anew at the world that has it.
+/// A program is added where no run slot is occupied, bound to the third map, where the key 0 has another value than in the first.
+/// The journal begins anew at the world that has it.
 const LOADED: Scene = Scene {
     limit: None,
     rows: &[
-        (1, Ask::Act("start 5 -"), "Ok(Refused(NoProgram))"),
+        (
+            1,
+            Ask::Act("put 0 00000000 0500000000000000 0"),
+            "Ok(Ret(Ok(())))",
+        ),
+        (
+            1,
+            Ask::Act("put 2 00000000 0900000000000000 0"),
+            "Ok(Ret(Ok(())))",
+        ),
+        (1, Ask::Act("start 6 -"), "Ok(Refused(NoProgram))"),
         (1, Ask::Act("start 0 -"), "Ok(Started(RunId { number: 0 }))"),
         (1, Ask::Load, "Err(NotQuiet)"),
         (1, Ask::Act("step 0"), "Ok(Moved)"),
         (1, Ask::Act("step 0"), "Ok(Exited(1))"),
         (1, Ask::Act("drop 0"), "Ok(Done)"),
-        (1, Ask::Program(5), "false"),
-        (1, Ask::Load, "Ok(ProgId { number: 5 })"),
-        (1, Ask::Program(5), "true"),
-        (1, Ask::Act("start 5 -"), "Ok(Started(RunId { number: 0 }))"),
-        (1, Ask::Act("step 0"), "Ok(Moved)"),
-        (1, Ask::Act("step 0"), "Ok(Exited(1))"),
-        (1, Ask::ExitNote(0, 5), "Some(1), made 8, worker 0"),
+        (1, Ask::Program(6), "false"),
+        (1, Ask::Load, "Ok(ProgId { number: 6 })"),
+        (1, Ask::Program(6), "true"),
+        (1, Ask::Act("start 6 -"), "Ok(Started(RunId { number: 0 }))"),
+        (11, Ask::Act("step 0"), "Ok(Moved)"),
+        (1, Ask::Act("step 0"), "Ok(Exited(9))"),
+        (1, Ask::ExitNote(0, 6), "Some(9), made 20, worker 0"),
     ],
-    left: "5 before, 3 of 16777216, Stat { linked: 0, unlinked: 0, given: 0, worn: 0, runs: 0, open: 0 }, Stat { linked: 0, unlinked: 0, given: 0, worn: 0, runs: 1, open: 0 }",
+    left: "7 before, 13 of 16777216, Stat { linked: 2, unlinked: 0, given: 0, worn: 0, runs: 0, open: 0 }, Stat { linked: 2, unlinked: 0, given: 0, worn: 0, runs: 1, open: 0 }",
     entries: &[
-        "Some(Entry { worker: 0, event: Start { prog: ProgId { number: 5 }, ctx: [] }, answer: Started(RunId { number: 0 }) })",
+        "Some(Entry { worker: 0, event: Start { prog: ProgId { number: 6 }, ctx: [] }, answer: Started(RunId { number: 0 }) })",
         MOVED,
-        EXITED,
-        "None",
     ],
 };
 

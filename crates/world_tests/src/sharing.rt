@@ -11,17 +11,26 @@ use std::sync::ledger::{Blank, Ledger};
 use std::test::Fail;
 use world::{Loaded, World};
 
-/// Two maps, the second with longer values; and five programs: 1 and 2 look up the keys 0 and 1, 3 exits with the byte of its context,
-/// and 4 is 1 once more, on the second map.
+/// Three maps, the second with longer values; and six programs: 1 and 2 look up the keys 0 and 1, 3 exits with the byte of its
+/// context, 4 is 1 once more, on the second map, and 5 adds 1 to the value of a key, and exits with it.
 const SCENERY: &str = "\
 map 4 8 4 4 100
 map 4 16 4 4 100
+map 4 8 4 4 100
 prog 0: EXIT_ONE
 prog 0 0: LOOKUP
 prog 0 0: mov64 r6, 0; callbtf 1; stw [r10-4], 1; mov64 r2, r10; add64 r2, -4; \
 ldmap r1, 0; call 1; jeq r0, 0, +1; ldxdw r6, [r0+0]; callbtf 2; mov64 r0, r6; exit
 prog 1: ldxb r0, [r1+0]; exit
-prog 0 1: LOOKUP";
+prog 0 1: LOOKUP
+prog 1 0: ADD_ONE";
+
+/// A lookup on the third map, which has the shape of the first.
+const ONE_MORE: &str = "\
+map 4 8 4 4 100
+map 4 16 4 4 100
+map 4 8 4 4 100
+prog 0 2: LOOKUP";
 
 /// The event of a line, which has no more than five words.
 pub fn event<R: Abort>(rt: &R, line: &str) -> Event {
@@ -33,9 +42,9 @@ pub fn event<R: Abort>(rt: &R, line: &str) -> Event {
     event_of(&words[..count]).expect(rt, "an event")
 }
 
-/// The program that exits with 1, without context and maps.
+/// A program that looks up the key 0 in the third map.
 pub fn one_more(alloc: Global) -> Result<Loaded, Fail> {
-    let mut setup = Setup::read(alloc, "prog 0: EXIT_ONE")?;
+    let mut setup = Setup::read(alloc, ONE_MORE)?;
     match setup.loaded.pop() {
         Some(loaded) => Ok(loaded),
         None => Err(Fail::from("no program")),
