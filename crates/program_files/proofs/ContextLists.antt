@@ -1,5 +1,5 @@
 -- Contexts that were read so far, of lines and of bytes.
-use Rattle.bpf_model.proofs.Prelude.{◌≡◌, ℕ, ◌+◌, ◌*◌, ◌%◌, ◌<◌, ◌≤◌, List, [], ◌∷◌, ◌++◌, All, length, map, sym, ap, ◌∙◌, arith, inl, inr, append_assoc}
+use Rattle.bpf_model.proofs.Prelude.{◌≡◌, ℕ, ◌+◌, ◌*◌, ◌%◌, ◌<◌, ◌≤◌, List, [], ◌∷◌, ◌++◌, All, length, map, refl, sym, ap, ◌∙◌, arith, inl, inr, append_assoc}
 use Rattle.bpf_model.proofs.Prelude.{Option, Some, None, mod-eq_of_lt, mul-mod_left, All-append, All-cons, All-head, All-nil, All-tail}
 use Rattle.std.proofs.Common.{flat_map, append-nil, length-append}
 use Rattle.std.proofs.Math.Nat.{suc-mul, zero-mul}
@@ -7,11 +7,24 @@ use Rattle.std.proofs.lemmas.Bool.Decides.{leb_tells}
 use Rattle.std.proofs.lemmas.Grind.{flat_map-append}
 use Rattle.script_stream.specs.Lines.{lines_of}
 use Rattle.program_files.specs.Contexts.{context_in, AreInLines, ArePacked}
+use Rattle.program_files.proofs.Cuts.{some_line}
 
 -- the contexts of the lines before the rest
 abbrev pub AreReadTo : ℕ → List ℕ → List ℕ → List (List ℕ) → Type 0
 AreReadTo len bytes rest contexts =
     map (context_in len) (lines_of bytes) ≡ map Some contexts ++ map (context_in len) (lines_of rest)
+
+none_mapped : (len : ℕ) (lines : List (List ℕ)) → map (context_in len) lines ≡ [] → lines ≡ []
+none_mapped len [] e = refl
+none_mapped len (line ∷ lines) e = absurd cc
+
+-- where nothing was read and nothing is left, there are no bytes
+pub no_bytes : (len : ℕ) (bytes rest : List ℕ) (read : List (List ℕ)) → AreReadTo len bytes rest read → length rest ≡ 0 →
+    length read ≡ 0 → bytes ≡ []
+no_bytes len [] rest read so none nothing = refl
+no_bytes len (b ∷ bytes) (c ∷ rest) read so none nothing = absurd (omega (arith, none))
+no_bytes len (b ∷ bytes) [] (r ∷ read) so none nothing = absurd (omega (arith, nothing))
+no_bytes len (b ∷ bytes) [] [] so none nothing = absurd (some_line b bytes (none_mapped len (lines_of (b ∷ bytes)) so))
 
 some_no_none : (xs : List (List ℕ)) (front back : List (Option (List ℕ))) → map Some xs ≡ front ++ None ∷ back → ⊥
 some_no_none [] [] back e = cc

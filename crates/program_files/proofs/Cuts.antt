@@ -69,14 +69,17 @@ onto_behind : (b : ℕ) (lines more : List (List ℕ)) → lines ≢ [] → onto
 onto_behind b [] more some = absurd (some refl)
 onto_behind b (line ∷ lines) more some = refl
 
-pub ended_some : (front : List ℕ) → lines_of (front ++ 10 ∷ []) ≢ []
-ended_some [] h = cc
-ended_some (b ∷ front) h =
-    elim (b == 10) as (λ (v : Bool).
-    cond v ([] ∷ lines_of (front ++ 10 ∷ [])) (onto_first b (lines_of (front ++ 10 ∷ []))) ≡ [] → ⊥) [
-      | true ↦ (λ (e : [] ∷ lines_of (front ++ 10 ∷ []) ≡ []). cc)
-      | false ↦ (λ e. onto_some b (lines_of (front ++ 10 ∷ [])) e)
+-- bytes have a line
+pub some_line : (b : ℕ) (bytes : List ℕ) → lines_of (b ∷ bytes) ≢ []
+some_line b bytes h =
+    elim (b == 10) as (λ (v : Bool). cond v ([] ∷ lines_of bytes) (onto_first b (lines_of bytes)) ≡ [] → ⊥) [
+      | true ↦ (λ (e : [] ∷ lines_of bytes ≡ []). cc)
+      | false ↦ (λ e. onto_some b (lines_of bytes) e)
     ] h
+
+pub ended_some : (front : List ℕ) → lines_of (front ++ 10 ∷ []) ≢ []
+ended_some [] = some_line 10 []
+ended_some (b ∷ front) = some_line b (front ++ 10 ∷ [])
 
 -- what stands behind a line feed has lines of its own
 pub lines_behind : (front after : List ℕ) → lines_of (front ++ 10 ∷ after) ≡ lines_of (front ++ 10 ∷ []) ++ lines_of after

@@ -1,5 +1,5 @@
 -- What a program file says once it is decoded, verified or disassembled, and the verdict on one that is refused.
-use Rattle.std.specs.Prelude.{◌≡◌, ◌≢◌, ℕ, ◌⊎◌, List, length, ⊤}
+use Rattle.std.specs.Prelude.{◌≡◌, ◌≢◌, ℕ, ◌⊎◌, List, length, ⊤, IfNone, IfSome}
 use Rattle.bpf_model.specs.declared.insn.Insn.{Insn}
 use Rattle.bpf_model.specs.Spelling.{IsProgram, text}
 use Rattle.bpf_model.specs.Places.{slot_total}
@@ -18,6 +18,7 @@ use Rattle.program_files.specs.declared.verdict.Verdict.{Verdict}
 use Rattle.program_files.specs.declared.verdict.Verdict.TheVariants.{File, Code, Program, Memory}
 use Rattle.program_files.specs.declared.program_file.Source.{Source}
 use Rattle.program_files.specs.declared.file_check.Accepted.{Accepted}
+use Rattle.program_files.specs.declared.refused.RefusedFile.{RefusedFile}
 
 -- what a file says whose code is the text of a program
 abbrev pub content_with : Source → FileContent
@@ -84,3 +85,14 @@ IsVerifierVerdict bytes v = ⊥
 -- verifier's verdict.
 abbrev pub IsCheckedRefusal : List ℕ → Verdict → Type 0
 IsCheckedRefusal bytes v = IsDecodeRefusal bytes v ⊎ IsVerifierVerdict bytes v
+
+-- The program is handed back, with its maps and its context, where the verifier refuses it; where memory runs out for its
+-- shapes, nothing is.
+pub record HandsBack (source : Source) (r : RefusedFile) : Type 0 where
+  pub whole : IfSome r.program (λ p. (p.source ≡ source) × (r.verdict ≡ Program p.refusal))
+  pub none : IfNone r.program (r.verdict ≡ Memory)
+
+-- The file's program is handed back where the verifier refuses it; where the file or its code has a fault, nothing is.
+pub record HandsBackFrom (bytes : List ℕ) (r : RefusedFile) : Type 0 where
+  pub whole : IfSome r.program (λ p. IsSourceOf bytes p.source × (r.verdict ≡ Program p.refusal))
+  pub none : IfNone r.program (IsDecodeRefusal bytes r.verdict)

@@ -1,7 +1,7 @@
 //! The contexts of many runs, as a file says them.
 ghost use Rattle.std.specs.Prelude.{◌≡◌, ◌≢◌, ◌≤◌, ◌<◌, ℕ, List, Some, None, length, map, IfOk, IfErr, IfSome, IfNone};
 ghost use Rattle.bpf_model.specs.declared.limits.TheConstants.{CTX_BYTES};
-ghost use Rattle.program_files.specs.Contexts.{context_in, AreInLines, ArePacked};
+ghost use Rattle.program_files.specs.Contexts.{context_in, AreInLines, ArePacked, IsLinesFault, IsPackedFault};
 ghost use Rattle.program_files.specs.declared.contexts.ContextsFault.TheVariants.{Memory};
 
 use crate::loader::first_line;
@@ -75,6 +75,7 @@ pub fn contexts_in_lines(
     ensures some { IfOk result (λ v. 0 < length v.items) }
     ensures fault { IfErr result (λ f. f ≢ Memory →
         (contexts : List (List ℕ)) → AreInLines len bytes.now contexts → ⊥) }
+    ensures which { IfErr result (IsLinesFault len bytes.now) }
 {
     let mut contexts = Vec::new(alloc);
     let mut rest = bytes;
@@ -111,6 +112,7 @@ pub fn packed_contexts(
     ensures some { IfOk result (λ v. 0 < length v.items) }
     ensures fault { IfErr result (λ f. f ≢ Memory →
         (contexts : List (List ℕ)) → ArePacked len bytes.now contexts → ⊥) }
+    ensures which { IfErr result (IsPackedFault len bytes.now) }
 {
     if bytes.is_empty() {
         return Err(ContextsFault::Empty);

@@ -2,7 +2,7 @@
 ghost use Rattle.std.specs.Prelude.{List, ℕ, ◌≤◌, IfOk, IfErr, string_bytes};
 ghost use Rattle.bpf_model.specs.declared.limits.TheConstants.{CTX_BYTES};
 ghost use Rattle.program_files.specs.Files.{HoldsBytes};
-ghost use Rattle.program_files.specs.Checks.{IsAcceptedFile, IsSourceOf, IsTextOf, IsDecodeRefusal, IsCheckedRefusal};
+ghost use Rattle.program_files.specs.Checks.{HandsBack, HandsBackFrom, IsAcceptedFile, IsSourceOf, IsTextOf, IsDecodeRefusal, IsCheckedRefusal};
 
 use crate::program_file::{FileBytes, Source};
 use crate::refused::RefusedFile;
@@ -27,6 +27,7 @@ pub fn check_source(alloc: Global, source: Source) -> Result<Accepted, RefusedFi
         IfOk result (IsAcceptedFile bytes) }
     ensures refused { (bytes : List ℕ) → IsSourceOf bytes source →
         IfErr result (λ r. IsCheckedRefusal bytes r.verdict) }
+    ensures returned { IfErr result (HandsBack source) }
 {
     let source = verify_source(alloc, source)?;
     let program = source.verified.program();
@@ -47,6 +48,8 @@ pub fn check(alloc: Global, file: &FileBytes) -> Result<Accepted, RefusedFile>
         IfOk result (IsAcceptedFile bytes) }
     ensures refused { (bytes : List ℕ) → HoldsBytes file.now bytes →
         IfErr result (λ r. IsCheckedRefusal bytes r.verdict) }
+    ensures returned { (bytes : List ℕ) → HoldsBytes file.now bytes →
+        IfErr result (HandsBackFrom bytes) }
 {
     let source = file.source(alloc)?;
     check_source(alloc, source)

@@ -91,8 +91,8 @@ impl Head {
 ///
 /// # Errors
 ///
-/// - `BadFile`: the first line that no head has there, counted from 2, as in a file; or the one behind the last, where
-///   one of the lines is `code`.
+/// - `BadFile`: the first line that no head has there, counted from 2, as in a file; or, where one of the lines is `code`, some
+///   line.
 /// - `Memory`: where memory runs out.
 pub fn read_head(alloc: Global, lines: &[u8]) -> Result<Head, LoadFault>
     ensures text { IfOk result (λ h. h.text ≡ lines.now ++ 10 ∷ []) }

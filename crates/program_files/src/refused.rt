@@ -1,5 +1,5 @@
 //! A program file that is refused, with what words about it are made of.
-ghost use Rattle.std.specs.Prelude.{◌≡◌};
+ghost use Rattle.std.specs.Prelude.{◌≡◌, None};
 ghost use Rattle.program_files.specs.declared.verdict.Verdict.TheVariants.{Memory};
 
 use crate::program_file::Source;
@@ -23,7 +23,7 @@ pub struct RefusedFile {
 }
 
 impl From<Verdict> for RefusedFile {
-    ghost from_gives = { λ verdict r. r.verdict ≡ verdict };
+    ghost from_gives = { λ verdict r. (r.verdict ≡ verdict) × (r.program ≡ None) };
 
     fn from(verdict: Verdict) -> RefusedFile {
         RefusedFile {
@@ -34,7 +34,7 @@ impl From<Verdict> for RefusedFile {
 }
 
 impl From<AllocError> for RefusedFile {
-    ghost from_gives = { λ _ r. r.verdict ≡ Memory };
+    ghost from_gives = { λ _ r. (r.verdict ≡ Memory) × (r.program ≡ None) };
 
     fn from(_: AllocError) -> RefusedFile {
         RefusedFile::from(Verdict::Memory)

@@ -6,7 +6,7 @@ ghost use Rattle.bpf_model.specs.View.{shapes_of_maps};
 ghost use Rattle.verifier.specs.GraphFlaws.{HasGoodGraph};
 ghost use Rattle.plan_laws.specs.Verified.{IsVerified};
 ghost use Rattle.verifier.specs.Verdict.{IsToldOf, IsAccepted as IsTaken};
-ghost use Rattle.program_files.specs.Checks.{IsSourceOf, IsCheckedRefusal};
+ghost use Rattle.program_files.specs.Checks.{HandsBack, IsSourceOf, IsCheckedRefusal};
 
 use crate::program_file::Source;
 use crate::refused::{RefusedFile, RefusedProgram};
@@ -75,6 +75,7 @@ pub fn verify_source(alloc: Global, source: Source) -> Result<VerifiedSource, Re
     ensures graph { OnOk result (HasGoodGraph source.program) }
     ensures refused { (bytes : List ℕ) → IsSourceOf bytes source →
         IfErr result (λ r. IsCheckedRefusal bytes r.verdict) }
+    ensures returned { IfErr result (HandsBack source) }
 {
     let shapes = shapes_of(alloc, &source.registry)?;
     let Source {
