@@ -46,8 +46,7 @@ fn write_map(map: Option<&Map>, out: &mut Vec<u8>) -> Result<(), AllocError>
 
 /// Adds the lines of the elements of a map, in byte order of their keys, and the end, as a script's `dump` is replied.
 ///
-/// The error is that there is no memory left. Where there is none for a list of the elements, nothing has been
-/// added; else a part may have been.
+/// The error is that there is no memory left. A part of the lines may have been added then.
 pub fn write_elements(world: &World, map: MapId, out: &mut Vec<u8>) -> Result<(), AllocError>
     ensures ok { OnOk result ((elements : List Reply)
         × AreElements (slice_get world.now.maps map) None elements

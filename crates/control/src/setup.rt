@@ -163,9 +163,9 @@ impl Setup {
         let verified = match verify_or_return(alloc, program, &bound.shapes, ctx_len) {
             Ok(verified) => verified,
             Err(refused) => {
-                let refusal = refused.refusal;
+                let told = unverified(refused.refusal)?;
                 self.refused = Some(refused);
-                return unverified(refusal);
+                return Ok(told);
             }
         };
         let number = self.loaded.len();

@@ -83,6 +83,16 @@ pub record IsFlawed (bytes : List ℕ) (fault : AsmFault) : Type 0 where
   pub plain_is : plain_below head body ≡ Ok lines
   pub fault_is : IsAsmFault lines fault
 
+-- the instructions of the text have a plain text, and this is one of a program
+pub record HasProgram (bytes : List ℕ) : Type 0 where
+  pub head : Option (List ℕ)
+  pub body : List ℕ
+  pub split : IsSplit bytes head body
+  pub lines : List ℕ
+  pub plain_is : plain_below head body ≡ Ok lines
+  pub code : List ℕ
+  pub code_of : IsCodeOf lines code
+
 -- the number of a head's last line in a program file, whose first line is the heading
 abbrev pub last_line : Option (List ℕ) → ℕ
 last_line head = count_by (λ b. b == 10) (head_or_none head) + 2
@@ -103,10 +113,10 @@ abbrev pub IsHeadRefusal : List ℕ → LoadFault → Type 0
 IsHeadRefusal bytes (load_faults.BadFile line) = HasBadHead bytes
 IsHeadRefusal bytes load_faults.Memory = Unit {0}
 
--- why the bytes are no text of a program; that memory ran out may be said of any
+-- why the bytes are no text of a program: the first of these that holds; that memory ran out may be said of any
 abbrev pub IsTextFault : List ℕ → TextFault → Type 0
 IsTextFault bytes (NotUtf8 line) = IsUtf8 bytes → ⊥
-IsTextFault bytes (Unnamed line fault) = HasNoPlain bytes fault
-IsTextFault bytes (Flawed line fault) = IsFlawed bytes fault × (fault ≢ asm_faults.Memory)
-IsTextFault bytes (BadHead line) = HasBadHead bytes
+IsTextFault bytes (Unnamed line fault) = IsUtf8 bytes × HasNoPlain bytes fault
+IsTextFault bytes (Flawed line fault) = IsUtf8 bytes × IsFlawed bytes fault × (fault ≢ asm_faults.Memory)
+IsTextFault bytes (BadHead line) = IsUtf8 bytes × HasProgram bytes × HasBadHead bytes
 IsTextFault bytes Memory = Unit {0}

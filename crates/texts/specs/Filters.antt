@@ -8,13 +8,14 @@ use Rattle.classic_program.specs.declared.data.Data.{Data}
 use Rattle.classic_program.specs.declared.data.Data.TheVariants.{Packet, Seccomp}
 use Rattle.classic_program.specs.declared.insn.ClassicInsn.{ClassicInsn}
 use Rattle.classic_program.specs.declared.sock_filter.SockFilter.{SockFilter}
+use Rattle.classic_program.specs.declared.fault.ReadFault.{ReadFault}
 use Rattle.classic_program.specs.declared.fault.ReadFault.TheVariants as read_faults
 use Rattle.classic_program.specs.declared.fault.ClassicFault.{ClassicFault}
 use Rattle.classic_program.specs.declared.fault.ClassicFault.TheVariants as classic_faults
 use Rattle.classic_program.specs.Context.{context_bytes}
 use Rattle.classic_program.specs.Faults.{IsCheckFault}
 use Rattle.classic_program.specs.Opcode.{AreInsnsOf}
-use Rattle.classic_program.specs.Reading.{IsListing, filters_in}
+use Rattle.classic_program.specs.Reading.{IsListing, IsListingFault, filters_in}
 use Rattle.classic_program.specs.WellFormed.{IsWellFormed, checked}
 use Rattle.classic.specs.declared.fault.TranslateFault.{TranslateFault}
 use Rattle.classic.specs.declared.fault.TranslateFault.TheVariants as translate_faults
@@ -68,10 +69,15 @@ pub record IsUntranslated (kind : Data) (bytes : List ℕ) (fault : TranslateFau
   pub well_formed : IsWellFormed kind classic
   pub fault_is : IsTranslateFault (checked kind classic) fault
 
+-- why the bytes list nothing: of packets the text's first fault, of system calls that the last instruction is cut
+abbrev pub IsReadFault : Data → List ℕ → ReadFault → Type 0
+IsReadFault Packet bytes fault = IsUtf8 bytes × IsListingFault bytes fault
+IsReadFault Seccomp bytes fault = fault ≡ read_faults.CutRecord
+
 -- why the bytes are refused; that memory ran out may be said of any
 abbrev pub IsFilterFault : Data → List ℕ → FilterFault → Type 0
 IsFilterFault kind bytes (NotUtf8 line) = (kind ≡ Packet) × (IsUtf8 bytes → ⊥)
-IsFilterFault kind bytes (Unread fault) = IsUnlisted kind bytes × (fault ≢ read_faults.Memory)
+IsFilterFault kind bytes (Unread fault) = IsUnlisted kind bytes × (fault ≢ read_faults.Memory) × IsReadFault kind bytes fault
 IsFilterFault kind bytes (Flawed fault) = IsFlawedFilter kind bytes fault × (fault ≢ classic_faults.Memory)
 IsFilterFault kind bytes (Untranslated fault) = IsUntranslated kind bytes fault × (fault ≢ translate_faults.Memory)
 IsFilterFault kind bytes Memory = Unit {0}

@@ -20,12 +20,12 @@ returns-in-Err-verify_or_return-clause-replies c =
     let v = c.in-Err-verify_or_return.ensures in
     let shapes : c.deref.result.now ≡ c.args.bound.shapes.items = c.deref.ensures.value in
     -- what is kept for words is no part of what contracts see
-    subst (λ s. IfOk c.unverified.result (λ made. ReadReplies c.args.self.now c.args.code.now c.args.bound.shapes.items
-    c.args.bound.maps.items c.args.ctx_len (program_reply made) s)) (sym c.self.view_is)
+    rw c.in_ok-told-in-Err-verify_or_return.was at (subst (λ s. IfOk c.unverified.result (λ made. ReadReplies c.args.self.now c.args.code.now
+    c.args.bound.shapes.items c.args.bound.maps.items c.args.ctx_len (program_reply made) s)) (sym c.self.view_is)
     (unverified-reply c.args.self.now c.args.code.now c.args.bound.shapes.items c.args.bound.maps.items c.args.ctx_len
     c.in-Ok.program c.in-Err-verify_or_return.refused.refusal c.unverified.result d.program d.found v.flaw_is
     (subst (λ x. IsPlainWithMaps c.in-Ok.program x → c.in-Err-verify_or_return.refused.refusal ≡ Memory) shapes v.plain_with_maps)
-    c.unverified.ensures.known c.unverified.ensures.refused)
+    c.unverified.ensures.known c.unverified.ensures.refused))
 
 pub invariant_of-self-2 : goal.invariant_of-self-2
 invariant_of-self-2 c =
