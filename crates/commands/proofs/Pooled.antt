@@ -1,11 +1,13 @@
 -- What a pool gives of a file's program.
-use Rattle.bpf_model.proofs.Prelude.{◌≡◌, ℕ, List, refl, sym, subst, inl, inr, arith, Option, Result, Ok, Err, MatchResult, OnOk, Appends, Appends-trans}
+use Rattle.bpf_model.proofs.Prelude.{◌≡◌, ◌<◌, ◌≤◌, ℕ, List, refl, sym, subst, inl, inr, arith, Option, Result, Ok, Err, MatchResult, OnOk, Appends, Appends-trans}
 use Rattle.bpf_model.proofs.Prelude.{shapes_of_maps}
 use Rattle.plan_laws.proofs.Prelude.{IsVerified}
 use Rattle.verifier.proofs.Prelude.{HasGoodGraph}
 use Rattle.bpf_model.specs.declared.insn.Insn.{Insn}
 use Rattle.bpf_model.specs.declared.limits.MapShape.{MapShape}
 use Rattle.job_queue.specs.declared.fault.PoolFault.{PoolFault}
+use Rattle.job_queue.specs.declared.fault.PoolFault.TheVariants.{BadWorkers, TooManyJobs}
+use Rattle.std.proofs.lemmas.Bool.Decides.{leb_tells}
 use Rattle.worker_pool.specs.Lines.{job_lines}
 use Rattle.worker_pool.specs.Outcomes.{AreOutcomesOn, IsFaultOf}
 use Rattle.worker_pool.specs.Runs.{WritesJobs}
@@ -15,7 +17,7 @@ use Rattle.bpf_model.specs.declared.event.EventRefusal.TheVariants.{BadContext}
 use Rattle.command_words.specs.declared.request.ContextsFile.{ContextsFile}
 use Rattle.commands.specs.declared.refusal.CommandRefusal.TheVariants.{Event, Pool}
 use Rattle.commands.specs.Contexts.{AreContexts}
-use Rattle.commands.specs.Pools.{entries_line, IsPoolRefusal, IsProgramOf, WritesPool}
+use Rattle.commands.specs.Pools.{entries_line, IsPoolRefusal, IsPoolSize, IsProgramOf, WritesPool}
 
 abbrev pub file_of : (bytes : List ℕ) (s : Source) → IsSourceOf bytes s → HasGoodGraph s.program →
     IsVerified s.program (shapes_of_maps s.registry.maps) s.ctx_len → IsVerifiedFile bytes s.program
@@ -29,12 +31,28 @@ program_found bytes s program shapes context_len is graph verified same_program 
     record { file = file_of bytes s is graph verified; maps = same_maps; context = same_len } in
     subst (λ (p : List Insn). IsProgramOf bytes p shapes context_len) (sym same_program) here
 
+-- a pool that is not refused for its numbers
+pub sized : {T E : Type 0} (r : Result T E) (x : T) (bad many : E) (workers count : ℕ) → r ≡ Ok x →
+    (IsFaultOf workers count BadWorkers → r ≡ Err bad) →
+    (0 < workers → workers ≤ 8 → IsFaultOf workers count TooManyJobs → r ≡ Err many) → IsPoolSize workers count
+sized r x bad many workers count ok none more = (
+  (λ no. let e = none no in cc),
+  (λ over. elim (leb_tells 1 workers) [
+    | inr no ↦ (let e = none (inl (omega (arith, no.1))) in cc)
+    | inl some ↦ elim (leb_tells workers 8) [
+      | inr no ↦ (let e = none (inr (omega (arith, no.1))) in cc)
+      | inl few ↦ (let e = more (omega (arith, some.1)) few.1 over in cc)
+    ]
+  ]),
+)
+
 -- the lines of the jobs, and that of the entries
-pub pool_written : (named : Option ContextsFile) (given bytes : List ℕ) (program : List Insn) (shapes : List MapShape) (context_len count entries : ℕ)
-    (contexts : List (List ℕ)) (old mid new : Option (List ℕ)) → IsProgramOf bytes program shapes context_len →
+pub pool_written : (named : Option ContextsFile) (given bytes : List ℕ) (program : List Insn) (shapes : List MapShape) (context_len workers count entries : ℕ)
+    (contexts : List (List ℕ)) (old mid new : Option (List ℕ)) → IsPoolSize workers count → IsProgramOf bytes program shapes context_len →
     AreContexts named context_len given contexts → WritesJobs program shapes contexts count old mid → Appends mid new (entries_line entries) →
-    WritesPool named given count old new bytes
-pool_written named given bytes program shapes context_len count entries contexts old mid new found are wrote last = (
+    WritesPool named given workers count old new bytes
+pool_written named given bytes program shapes context_len workers count entries contexts old mid new size found are wrote last = (
+  size,
   wrote.outcomes,
   entries,
   record {

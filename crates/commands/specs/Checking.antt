@@ -1,5 +1,5 @@
 -- What `check` writes of a program file, or of a text of instructions, and how it refuses them.
-use Rattle.std.specs.Prelude.{◌⊎◌, ℕ, Bool, true, false, List, Option}
+use Rattle.std.specs.Prelude.{◌≡◌, ◌⊎◌, ℕ, Bool, true, false, List, Option}
 use Rattle.texts.specs.Assembled.{IsAssembled}
 use Rattle.commands.specs.Outputs.{RefusesFile, WritesAccepted}
 use Rattle.commands.specs.Sources.{IsRead, IsRefusedText}
@@ -16,9 +16,9 @@ RefusesMade json old new bytes =
     (read : List ℕ) × IsRead bytes read
     × ((lines code file : List ℕ) × IsAssembled read lines code file × RefusesFile json old new file)
 
--- The text is refused, or the program file that it makes.
+-- The text is refused, and nothing is written; or the program file that it makes is refused.
 abbrev pub RefusesText : Bool → Option (List ℕ) → Option (List ℕ) → List ℕ → Type 0
-RefusesText json old new bytes = IsRefusedText bytes ⊎ RefusesMade json old new bytes
+RefusesText json old new bytes = (IsRefusedText bytes × (new ≡ old)) ⊎ RefusesMade json old new bytes
 
 -- what `check` adds to the output for a text of instructions, or else a program file, that it accepts
 abbrev pub WritesChecked : Bool → Bool → Option (List ℕ) → Option (List ℕ) → List ℕ → Type 0

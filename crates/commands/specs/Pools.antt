@@ -8,7 +8,7 @@ use Rattle.bpf_model.specs.declared.insn.Insn.{Insn}
 use Rattle.bpf_model.specs.declared.limits.MapShape.{MapShape}
 use Rattle.bpf_model.specs.View.{shapes_of_maps}
 use Rattle.job_queue.specs.declared.fault.PoolFault.{PoolFault}
-use Rattle.job_queue.specs.declared.fault.PoolFault.TheVariants.{Lost}
+use Rattle.job_queue.specs.declared.fault.PoolFault.TheVariants.{BadWorkers, Lost, TooManyJobs}
 use Rattle.job_queue.specs.Faults.{pool_fault_number}
 use Rattle.worker_pool.specs.declared.job.Outcome.{Outcome}
 use Rattle.worker_pool.specs.Lines.{job_lines}
@@ -49,10 +49,14 @@ pub record ArePooled (named : Option ContextsFile) (given bytes : List ℕ) (cou
   pub number : length outcomes ≡ count
   pub each : AreOutcomesOn program (shapes_of_maps file.content.registry.maps) contexts 0 outcomes
 
+-- A pool may have so many workers and jobs: it has no fault of these numbers.
+abbrev pub IsPoolSize : ℕ → ℕ → Type 0
+IsPoolSize workers count = (IsFaultOf workers count BadWorkers → ⊥) × (IsFaultOf workers count TooManyJobs → ⊥)
+
 -- what `pool` adds to the output, where the file of contexts that is named has the given bytes
-abbrev pub WritesPool : Option ContextsFile → List ℕ → ℕ → Option (List ℕ) → Option (List ℕ) → List ℕ → Type 0
-WritesPool named given count old new bytes =
-    (outcomes : List Outcome) × (entries : ℕ) × ArePooled named given bytes count outcomes
+abbrev pub WritesPool : Option ContextsFile → List ℕ → ℕ → ℕ → Option (List ℕ) → Option (List ℕ) → List ℕ → Type 0
+WritesPool named given workers count old new bytes =
+    IsPoolSize workers count × (outcomes : List Outcome) × (entries : ℕ) × ArePooled named given bytes count outcomes
     × Appends old new (pool_text outcomes entries)
 
 -- The file says a program that is verified with its maps and context, and the file of contexts says

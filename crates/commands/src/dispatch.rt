@@ -52,12 +52,13 @@ fn run_disasm<R: Read, W: Write, E: Write>(
 }
 
 /// Runs a command on its input, its file's bytes or a script, and answers the exit status: 0 fine, 1 refused or a line that is
-/// wrong, 3 a fault of memory (13), of reading (96) or of writing (97). A refusal or a fault is one line on `err`. After a refusal
-/// of a file nothing was written on `out`, or a JSON object where that was asked for, and after line L of a script is wrong (95)
-/// the answers of the lines before; after a fault of writing, of a script or of a pool a part may have been. Which fault it was,
-/// and that there was one, no clause says: status 3 tells nothing. A reader of a file that is too large fails by `FileTooLarge`,
-/// which is 13 too. That a pool returns is not claimed: it waits for a lock. The contexts are the bytes of the file that the
-/// command names beside its own (`BpfrtCommand::contexts_file`), and of no use to a command that names none.
+/// wrong, 3 a fault of memory (13), of reading (96) or of writing (97). A refusal or a fault is one line on `err`; more stands there
+/// where words or a log are asked for, and behind the refusal of a text. After a refusal of a file nothing was written on `out`, or,
+/// of a program file, a JSON object where that was asked for. After line L of a script is wrong (95) the answers of the lines before
+/// were; after a fault of writing, of a script or of a pool a part may have been. Which fault it was, and that there was one, no
+/// clause says: status 3 tells nothing. A reader of a file that is too large fails by `FileTooLarge`, which is 13 too. That a pool
+/// returns is not claimed: it waits for a lock. The contexts are the bytes of the file that the command names beside its own
+/// (`BpfrtCommand::contexts_file`), and of no use to a command that names none.
 pub fn run<H: Threads + Wait + Sync, R: Read, W: Write, E: Write>(
     rt: &H,
     alloc: Global,

@@ -132,7 +132,7 @@ pub fn run_pool<H: Threads + Wait + Sync, R: Read, W: Write, E: Write>(
 ) -> u8
     ensures status { (result ≡ 0) ⊎ (result ≡ 1) ⊎ (result ≡ 3) }
     ensures pooled { result ≡ 0 → IfSome (R.remaining input.old)
-        (WritesPool named.now given.now size.count (W.contents out.old) (W.contents out.new)) }
+        (WritesPool named.now given.now size.workers size.count (W.contents out.old) (W.contents out.new)) }
     ensures refused { result ≡ 1 → IfSome (R.remaining input.old)
         (IsRefusedByPool named.now given.now size.workers size.count) }
     ensures silent { result ≡ 1 → out.new ≡ out.old }

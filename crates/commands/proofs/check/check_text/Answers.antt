@@ -1,4 +1,4 @@
-use Rattle.bpf_model.proofs.Prelude.{◌∙◌, subst, inl, inr, IfSome_then, text}
+use Rattle.bpf_model.proofs.Prelude.{◌∙◌, refl, subst, inl, inr, IfSome_then, text}
 use Rattle.program_files.specs.Heads.{file_text}
 use Rattle.texts.specs.Assembled.{IsAssembled, IsTextFault}
 use Rattle.commands.specs.Sources.{IsRead}
@@ -10,9 +10,12 @@ returns-clause-refused g c =
     let read = c.in-Ok-source_of.source.read.items in
     λ is. IfSome_then (g.R.Read.remaining c.args.input.now) c.in-Ok.ensures
     (λ bytes same. inl (
-      read,
-      subst (λ z. IsRead z read) (c.deref.ensures.value ∙ same) c.in-Ok-source_of.ensures,
-      (why, c.report_text_fault.ensures.refused is, subst (λ z. IsTextFault z why) c.deref-2.ensures.value c.in-Err-assemble_text.ensures.fault),
+      (
+        read,
+        subst (λ z. IsRead z read) (c.deref.ensures.value ∙ same) c.in-Ok-source_of.ensures,
+        (why, c.report_text_fault.ensures.refused is, subst (λ z. IsTextFault z why) c.deref-2.ensures.value c.in-Err-assemble_text.ensures.fault),
+      ),
+      refl,
     ))
 
 pub returns-in-Ok-assemble_text-clause-accepted : goal.returns-in-Ok-assemble_text-clause-accepted
