@@ -15,7 +15,8 @@ use Rattle.classic_program.specs.declared.fault.ClassicFault.TheVariants as clas
 use Rattle.classic_program.specs.Context.{context_bytes}
 use Rattle.classic_program.specs.Faults.{IsCheckFault}
 use Rattle.classic_program.specs.Opcode.{AreInsnsOf}
-use Rattle.classic_program.specs.Reading.{IsListing, IsListingFault, filters_in}
+use Rattle.classic_program.specs.ReadFaults.{IsListingFault}
+use Rattle.classic_program.specs.Reading.{IsListing, filters_in}
 use Rattle.classic_program.specs.WellFormed.{IsWellFormed, checked}
 use Rattle.classic.specs.declared.fault.TranslateFault.{TranslateFault}
 use Rattle.classic.specs.declared.fault.TranslateFault.TheVariants as translate_faults
