@@ -1,5 +1,6 @@
 -- What a pool gives of a file's program.
-use Rattle.bpf_model.proofs.Prelude.{◌≡◌, ◌<◌, ◌≤◌, ℕ, List, refl, sym, subst, inl, inr, arith, Option, Result, Ok, Err, MatchResult, OnOk, Appends, Appends-trans}
+use Rattle.bpf_model.proofs.Prelude.{◌≡◌, ◌<◌, ◌≤◌, ℕ, List, refl, sym, subst, inl, inr}
+use Rattle.bpf_model.proofs.Prelude.{arith, Option, Result, Ok, Err, MatchResult, OnOk, Appends, Appends-trans}
 use Rattle.bpf_model.proofs.Prelude.{shapes_of_maps}
 use Rattle.plan_laws.proofs.Prelude.{IsVerified}
 use Rattle.verifier.proofs.Prelude.{HasGoodGraph}

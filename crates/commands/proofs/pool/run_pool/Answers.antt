@@ -39,9 +39,9 @@ returns-in-Ok-run_program-clause-pooled g c zero =
     let size = sized c.run_program.result c.in-Ok-run_program.entries (run_faults.Pool pool_faults.BadWorkers) (run_faults.Pool pool_faults.TooManyJobs) c.args.size.workers c.args.size.count
     c.in-Ok-run_program.is c.in-Ok-run_program.ensures.bad_workers c.in-Ok-run_program.ensures.too_many_jobs in
     IfSome_then (g.R.Read.remaining c.args.input.now) c.in-Ok.ensures
-    (λ bytes holds. pool_written named given bytes p.program p.shapes p.ctx_len c.args.size.workers c.args.size.count c.in-Ok-run_program.entries
-    (contexts_of c.deref.result.now) (contents c.args.out.now) (contents c.run_program.new.out) (contents c.write_entries.new.out) size
-    (c.in-Ok-program_of.ensures.found bytes holds) are c.in-Ok-run_program.ensures.written last)
+    (λ bytes holds. pool_written named given bytes p.program p.shapes p.ctx_len c.args.size.workers c.args.size.count
+    c.in-Ok-run_program.entries (contexts_of c.deref.result.now) (contents c.args.out.now) (contents c.run_program.new.out)
+    (contents c.write_entries.new.out) size (c.in-Ok-program_of.ensures.found bytes holds) are c.in-Ok-run_program.ensures.written last)
 
 pub returns-in-Err-contexts_for-clause-refused : goal.returns-in-Err-contexts_for-clause-refused
 returns-in-Err-contexts_for-clause-refused g c one =
