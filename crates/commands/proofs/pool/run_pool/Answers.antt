@@ -8,8 +8,6 @@ use Rattle.commands.specs.Refusals.{command_number}
 use Rattle.worker_pool.specs.Outcomes.{contexts_of}
 use Rattle.bpf_model.specs.declared.event.EventRefusal.TheVariants.{BadContext}
 use Rattle.commands.proofs.Pooled.{contexts_told, not_so, pool_told, pool_written, sized, so_written}
-use Rattle.worker_pool.specs.declared.fault.RunFault.TheVariants as run_faults
-use Rattle.job_queue.specs.declared.fault.PoolFault.TheVariants as pool_faults
 use Rattle.commands.proofs.pool.run_pool.Goals as goal
 
 pub returns-in-Err-program_of-clause-refused : goal.returns-in-Err-program_of-clause-refused
@@ -36,7 +34,7 @@ returns-in-Ok-run_program-clause-pooled g c zero =
     subst (λ (n : ℕ). AreContexts named n given (contexts_of read)) c.ctx_len-len.ensures.value c.in-Ok-contexts_for.ensures.found in
     let are : AreContexts named p.ctx_len given (contexts_of c.deref.result.now) =
     subst (λ cs. AreContexts named p.ctx_len given (contexts_of cs)) (sym c.deref.ensures.value) of_length in
-    let size = sized c.run_program.result c.in-Ok-run_program.entries (run_faults.Pool pool_faults.BadWorkers) (run_faults.Pool pool_faults.TooManyJobs) c.args.size.workers c.args.size.count
+    let size = sized c.run_program.result c.in-Ok-run_program.entries _ _ c.args.size.workers c.args.size.count
     c.in-Ok-run_program.is c.in-Ok-run_program.ensures.bad_workers c.in-Ok-run_program.ensures.too_many_jobs in
     IfSome_then (g.R.Read.remaining c.args.input.now) c.in-Ok.ensures
     (λ bytes holds. pool_written named given bytes p.program p.shapes p.ctx_len c.args.size.workers c.args.size.count
