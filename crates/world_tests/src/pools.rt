@@ -262,7 +262,7 @@ fn run_pool<L: Ledger + Send + Sync, R: Threads + Wait + Abort + Sync>(
     requires parts { (blank.parts ≡ L.parts) × (blank.parts ≡ pool.now.workers) }
 {
     let mut world = scenery(alloc)?;
-    world.apply(&event(rt, "put 0 00000000 0500000000000000 0"));
+    world.apply(&event(rt, alloc, "put 0 00000000 0500000000000000 0")?);
     let (shared, mut workers, _) = shared_of::<L, R>(
         rt,
         alloc,
@@ -329,7 +329,7 @@ fn count_together<L: Ledger + Send + Sync, R: Threads + Wait + Abort + Sync>(
     requires parts { (blank.parts ≡ L.parts) × (blank.parts ≡ 8) }
 {
     let mut world = scenery(alloc)?;
-    world.apply(&event(rt, "put 0 00000000 0000000000000000 0"));
+    world.apply(&event(rt, alloc, "put 0 00000000 0000000000000000 0")?);
     let (shared, mut workers, _) = shared_of::<L, R>(rt, alloc, world, blank, 8, None)?;
     let mut jobs = Vec::new(alloc);
     for _ in 0..COUNTING {

@@ -308,9 +308,13 @@ fn answer_to<L: Ledger, R: Wait + Abort>(
 ) -> Result<String, Fail> {
     let ctx = CtxBytes::new();
     let text = match *ask {
-        Ask::Act(line) => format!(in alloc; "{:?}", shared.act(rt, worker, event(rt, line))),
+        Ask::Act(line) => {
+            let event = event(rt, alloc, line)?;
+            format!(in alloc; "{:?}", shared.act(rt, worker, event))
+        }
         Ask::Note(line) => {
-            let receipt = shared.act_noted(rt, worker, event(rt, line));
+            let event = event(rt, alloc, line)?;
+            let receipt = shared.act_noted(rt, worker, event);
             let (reply, made) = (receipt.reply(), receipt.made());
             format!(in alloc;
                 "{:?}: {reply:?}, made {made}, worker {}",

@@ -32,14 +32,10 @@ map 4 16 4 4 100
 map 4 8 4 4 100
 prog 0 2: LOOKUP";
 
-/// The event of a line, which has no more than five words.
-pub fn event<R: Abort>(rt: &R, line: &str) -> Event {
-    let mut words = [""; 5];
-    for (place, word) in words.iter_mut().zip(line.split(' ')) {
-        *place = word;
-    }
-    let count = line.split(' ').count().min(5);
-    event_of(&words[..count]).expect(rt, "an event")
+/// The event of a line.
+pub fn event<R: Abort>(rt: &R, alloc: Global, line: &str) -> Result<Event, AllocError> {
+    let words: Vec<&str> = line.split(' ').collect(alloc)?;
+    Ok(event_of(&words).expect(rt, "an event"))
 }
 
 /// A program that looks up the key 0 in the third map.

@@ -36,7 +36,8 @@ fn work<L: Ledger, R: Wait + Abort>(
     let number = worker.number();
     let mut answers = Vec::new(alloc);
     for turn in 0..CALLS {
-        if let Ok(answer) = shared.act(rt, worker, event(rt, line_of(number, turn))) {
+        let event = event(rt, alloc, line_of(number, turn))?;
+        if let Ok(answer) = shared.act(rt, worker, event) {
             answers.push(answer)?;
         }
     }
@@ -137,7 +138,7 @@ fn eight<L: Ledger + Send + Sync, R: Threads + Wait + Abort + Sync>(
     requires parts { (blank.parts ≡ L.parts) × (blank.parts ≡ 8) }
 {
     let mut world = scenery(alloc)?;
-    world.apply(&event(rt, "put 0 03000000 0900000000000000 0"));
+    world.apply(&event(rt, alloc, "put 0 03000000 0900000000000000 0")?);
     let first = world.stat();
     let (shared, mut workers, mut counters) = shared_of::<L, R>(rt, alloc, world, blank, 8, None)?;
     let logs = Mutex::new(Vec::new(alloc));
