@@ -37,13 +37,13 @@ pub sized : {T E : Type 0} (r : Result T E) (x : T) (bad many : E) (workers coun
     (IsFaultOf workers count BadWorkers → r ≡ Err bad) →
     (0 < workers → workers ≤ 8 → IsFaultOf workers count TooManyJobs → r ≡ Err many) → IsPoolSize workers count
 sized r x bad many workers count ok none more = (
-  (λ no. let e = none no in cc),
+  (λ wrong. let e = none wrong in cc),
   (λ over. elim (leb_tells 1 workers) [
-    | inr no ↦ (let e = none (inl (omega (arith, no.1))) in cc)
-    | inl some ↦ elim (leb_tells workers 8) [
-      | inr no ↦ (let e = none (inr (omega (arith, no.1))) in cc)
+    | inr short ↦ (let e = none (inl (omega (arith, short.1))) in cc)
+    | inl some ↦ (elim (leb_tells workers 8) [
+      | inr large ↦ (let e = none (inr (omega (arith, large.1))) in cc)
       | inl few ↦ (let e = more (omega (arith, some.1)) few.1 over in cc)
-    ]
+    ])
   ]),
 )
 
