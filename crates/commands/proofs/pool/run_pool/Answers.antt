@@ -1,4 +1,4 @@
-use Rattle.bpf_model.proofs.Prelude.{◌≡◌, ℕ, List, arith, inl, subst, sym, IfSome_then}
+use Rattle.bpf_model.proofs.Prelude.{◌≡◌, ℕ, List, arith, inl, refl, subst, sym, Ok, IfSome_then}
 use Rattle.program_files.specs.Verdicts.{memory_number}
 use Rattle.job_queue.specs.declared.fault.PoolFault.TheVariants.{Lost}
 use Rattle.job_queue.specs.Faults.{pool_fault_number}
@@ -8,6 +8,8 @@ use Rattle.commands.specs.Refusals.{command_number}
 use Rattle.worker_pool.specs.Outcomes.{contexts_of}
 use Rattle.bpf_model.specs.declared.event.EventRefusal.TheVariants.{BadContext}
 use Rattle.commands.proofs.Pooled.{contexts_told, not_so, pool_told, pool_written, sized, so_written}
+use Rattle.worker_pool.specs.declared.fault.RunFault.TheVariants as run_faults
+use Rattle.job_queue.specs.declared.fault.PoolFault.TheVariants as pool_faults
 use Rattle.commands.proofs.pool.run_pool.Goals as goal
 
 pub returns-in-Err-program_of-clause-refused : goal.returns-in-Err-program_of-clause-refused
@@ -34,8 +36,9 @@ returns-in-Ok-run_program-clause-pooled g c zero =
     subst (λ (n : ℕ). AreContexts named n given (contexts_of read)) c.ctx_len-len.ensures.value c.in-Ok-contexts_for.ensures.found in
     let are : AreContexts named p.ctx_len given (contexts_of c.deref.result.now) =
     subst (λ cs. AreContexts named p.ctx_len given (contexts_of cs)) (sym c.deref.ensures.value) of_length in
-    let size = sized c.run_program.result c.in-Ok-run_program.entries _ _ c.args.size.workers c.args.size.count
-    c.in-Ok-run_program.is c.in-Ok-run_program.ensures.bad_workers c.in-Ok-run_program.ensures.too_many_jobs in
+    let entries = c.in-Ok-run_program.entries in
+    let size = sized (Ok entries) entries (run_faults.Pool pool_faults.BadWorkers) (run_faults.Pool pool_faults.TooManyJobs)
+    c.args.size.workers c.args.size.count refl c.in-Ok-run_program.ensures.bad_workers c.in-Ok-run_program.ensures.too_many_jobs in
     IfSome_then (g.R.Read.remaining c.args.input.now) c.in-Ok.ensures
     (λ bytes holds. pool_written named given bytes p.program p.shapes p.ctx_len c.args.size.workers c.args.size.count
     c.in-Ok-run_program.entries (contexts_of c.deref.result.now) (contents c.args.out.now) (contents c.run_program.new.out)
