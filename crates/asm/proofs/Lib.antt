@@ -6,7 +6,6 @@ mod FormLaws
 mod Lacking
 mod LineLaws
 mod LinesRead
-mod NameLaws
 mod Numerals
 mod PlainNames
 mod StatementLaws

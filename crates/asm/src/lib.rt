@@ -12,7 +12,6 @@ mod form;
 mod insn;
 mod law;
 mod line;
-mod names;
 mod numeral;
 mod operand;
 mod pieces;

@@ -18,7 +18,7 @@ fn push_digit(value: u128, digit: u8) -> u128
     if next < CAP { next } else { CAP }
 }
 
-/// The number of digits of which the first is not 0, or `None` where one of them is no digit.
+/// The number that digits write, of which the first is not 0; `None` where one of them is no digit.
 fn read_digits(digits: &[u8]) -> Option<u128>
     requires some { 0 < length digits.now }
     requires first { slice_index digits.now 0 ≢ 48 }

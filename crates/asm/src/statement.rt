@@ -7,9 +7,8 @@ ghost use Rattle.disasm.specs.declared.statement.Arguments.{Arguments as Argumen
 ghost use Rattle.asm.specs.Reading.{capped_argument, capped_arguments, IsArgumentsRead, ReadsArguments, IsStatementRead, ReadsStatement, Lacks};
 
 use crate::argument::read_argument;
-use crate::names::mnemonic_named;
 use crate::pieces::{cut, without_first};
-use disasm::{Arguments, Statement};
+use disasm::{Arguments, Statement, mnemonic_named};
 
 /// What stands before and after the first comma (byte 44), which a space (byte 32) follows.
 fn cut_comma(text: &str) -> Option<(&str, &str)>

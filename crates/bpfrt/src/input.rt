@@ -1,15 +1,11 @@
 //! A file that is read.
 
+use commands::{HEADING, TEXT_BYTES};
 use std::io;
 use std::io::{Error, ErrorKind, Read};
 
-/// The most bytes of a text that are kept, 16 MiB.
-pub const MOST_BYTES: u64 = 16 << 20;
-
-/// The first bytes of a program file that is a text.
-pub const TEXT_HEAD: [u8; 8] = *b"bpfrt 1\n";
-
-/// A file of which no more is read than so many bytes, and what was wrong where it was read last in vain.
+/// A file of which at most so many bytes are read, with the error of the last read, if that failed. A text that is longer than
+/// `TEXT_BYTES` fails by `FileTooLarge`.
 #[derive(Drop)]
 pub struct Input<R: Drop> {
     source: R,
@@ -21,7 +17,8 @@ pub struct Input<R: Drop> {
 }
 
 impl<R: Drop> Input<R> {
-    /// Before the first read of at most so many bytes. A text is known as one, or begins as a program file does.
+    /// At most `most` bytes of the source are read. It is a text where `is_text` says so, or where it begins as a program file
+    /// does.
     pub fn new(source: R, most: u64, is_text: bool) -> Input<R> {
         Input {
             source,
@@ -54,7 +51,7 @@ impl<R: Drop> Input<R> {
 
     /// Whether it is a text of which more was read than is kept.
     fn is_too_large(&self) -> bool {
-        self.taken > MOST_BYTES && (self.is_text || self.head == TEXT_HEAD)
+        self.taken > TEXT_BYTES as u64 && (self.is_text || self.head.as_slice() == HEADING)
     }
 }
 

@@ -4,10 +4,11 @@
 mod input;
 mod progress;
 
-use crate::input::{Input, MOST_BYTES, TEXT_HEAD};
+use crate::input::Input;
 use crate::progress::Progress;
 use commands::{
-    BpfrtCommand, InputFile, WordsFault, no_command, parse_words, read_failed, read_text, run,
+    BpfrtCommand, HEADING, InputFile, TEXT_BYTES, WordsFault, no_command, parse_words, read_failed,
+    read_text, run,
 };
 use std::alloc::Global;
 use std::fs::File;
@@ -60,7 +61,7 @@ const TELLING_BYTES: u64 = 40_000;
 fn begins_as_text(rt: &HostRuntime, path: &str) -> io::Result<bool> {
     let mut first = [0; 8];
     let count = File::open(rt, path)?.read(&mut first)?;
-    Ok(count == 8 && first == TEXT_HEAD)
+    Ok(count == 8 && first.as_slice() == HEADING)
 }
 
 /// Whether the command reads a text, and no program file.
@@ -74,7 +75,7 @@ fn reads_text(command: &BpfrtCommand) -> bool {
 
 /// How many bytes are read of a file of this length. Of a text that is too large nothing is.
 fn bytes_read(rt: &HostRuntime, is_text: bool, path: &str, length: u64) -> io::Result<u64> {
-    if length <= MOST_BYTES {
+    if length <= TEXT_BYTES as u64 {
         return Ok(u64::MAX);
     }
     if is_text || begins_as_text(rt, path)? {
@@ -83,9 +84,8 @@ fn bytes_read(rt: &HostRuntime, is_text: bool, path: &str, length: u64) -> io::R
     Ok(TELLING_BYTES + length % 8)
 }
 
-/// Opens a file that can be read, a text or a program file, and says how many bytes of it are: a folder can be opened, but
-/// not read.
-fn opened(rt: &HostRuntime, is_text: bool, path: &str) -> io::Result<(File, u64)> {
+/// Opens a file that can be read, a text or a program file: a folder can be opened, but not read.
+fn opened(rt: &HostRuntime, is_text: bool, path: &str) -> io::Result<Input<File>> {
     let file = File::open(rt, path)?;
     let metadata = file.metadata()?;
     if metadata.is_dir() {
@@ -96,7 +96,7 @@ fn opened(rt: &HostRuntime, is_text: bool, path: &str) -> io::Result<(File, u64)
     } else {
         u64::MAX
     };
-    Ok((file, most))
+    Ok(Input::new(file, most, is_text))
 }
 
 /// Reads a file of contexts to its end. Why it cannot be read is told, and the status is the error.
@@ -127,10 +127,7 @@ fn contexts_of(rt: &HostRuntime, command: &BpfrtCommand) -> Result<Vec<u8>, u8> 
             read_contexts(rt, "-", &mut input)
         }
         Some(InputFile::Path(path)) => match opened(rt, true, path.as_str()) {
-            Ok((file, most)) => {
-                let mut input = Input::new(file, most, true);
-                read_contexts(rt, path.as_str(), &mut input)
-            }
+            Ok(mut input) => read_contexts(rt, path.as_str(), &mut input),
             Err(error) => Err(unopened(&mut rt.stderr(), command, path.as_str(), &error)),
         },
     }
@@ -168,6 +165,7 @@ fn run_into<H: Threads + Wait + Sync, W: Write>(
         Ok(contexts) => contexts,
         Err(status) => return status,
     };
+    let is_text = reads_text(command);
     match command.file() {
         None => run(
             threads,
@@ -179,21 +177,13 @@ fn run_into<H: Threads + Wait + Sync, W: Write>(
             &mut err,
         ),
         Some(InputFile::StandardInput) => {
-            let mut input = Input::new(rt.stdin(), u64::MAX, reads_text(command));
+            let mut input = Input::new(rt.stdin(), u64::MAX, is_text);
             run_on(rt, threads, command, &contexts, "-", &mut input, out)
         }
-        Some(InputFile::Path(path)) => match opened(rt, reads_text(command), path.as_str()) {
-            Ok((file, most)) => {
-                let mut input = Input::new(file, most, reads_text(command));
-                run_on(
-                    rt,
-                    threads,
-                    command,
-                    &contexts,
-                    path.as_str(),
-                    &mut input,
-                    out,
-                )
+        Some(InputFile::Path(path)) => match opened(rt, is_text, path.as_str()) {
+            Ok(mut input) => {
+                let name = path.as_str();
+                run_on(rt, threads, command, &contexts, name, &mut input, out)
             }
             Err(error) => unopened(&mut err, command, path.as_str(), &error),
         },
@@ -215,9 +205,7 @@ fn run_told<H: Threads + Wait + Sync>(rt: &HostRuntime, threads: &H, command: &B
         None => run_into(rt, threads, command, &mut rt.stdout()),
         Some(jobs) => {
             let mut progress = Progress::new(rt.stdout(), rt.stderr(), jobs);
-            let status = run_into(rt, threads, command, &mut progress);
-            progress.end(status);
-            status
+            run_into(rt, threads, command, &mut progress)
         }
     }
 }

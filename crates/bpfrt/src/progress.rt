@@ -3,13 +3,14 @@
 use std::io;
 use std::io::{Stderr, Stdout, Write};
 
-/// Standard output, for the lines of a pool's jobs. With each flush of it, standard error says how many lines it has
-/// taken, of how many jobs, in place of what it said before.
+/// Standard output, for the lines of a pool's jobs. A flush behind further lines tells on standard error, on a line of its
+/// own, how many of how many jobs are done.
 #[derive(Drop)]
 pub struct Progress {
     out: Stdout,
     err: Stderr,
     lines: u64,
+    told: u64,
     jobs: u64,
 }
 
@@ -20,14 +21,8 @@ impl Progress {
             out,
             err,
             lines: 0,
+            told: 0,
             jobs,
-        }
-    }
-
-    /// Ends the line on standard error, where all jobs are done.
-    pub fn end(&mut self, status: u8) {
-        if status == 0 {
-            let _ = writeln!(self.err);
         }
     }
 }
@@ -47,8 +42,11 @@ impl Write for Progress {
         self.out.flush()?;
         let jobs = self.jobs;
         let done = self.lines.min(jobs);
-        let unit = if jobs == 1 { "job" } else { "jobs" };
-        let _ = write!(self.err, "\r{done} of {jobs} {unit} ");
+        if done > self.told {
+            self.told = done;
+            let unit = if jobs == 1 { "job" } else { "jobs" };
+            let _ = writeln!(self.err, "{done} of {jobs} {unit}");
+        }
         Ok(())
     }
 }

@@ -7,8 +7,8 @@ use clap::error::ErrorKind;
 use classic::Data;
 use std::alloc::{AllocError, Global};
 
-/// The text without white space behind it, and with U+FFFD for each other control character, which could come
-/// from a word and change what a terminal shows.
+/// The text without white space at its end, and with U+FFFD for each control character but line feeds. One could come from a
+/// word, and change what a terminal shows.
 pub fn shown(alloc: Global, text: &str) -> Result<String, AllocError> {
     let mut shown = String::new(alloc);
     for character in text.trim_end().chars() {

@@ -14,7 +14,7 @@ whose maps and context the program is verified against, or raw bytes, with neith
 
 Prints `accepted I instructions S slots`. With --explain, a refusal is followed on standard error by its name
 and meaning; where it is of an instruction, by that one's text, what is known of each register that it reads,
-and how many locks are open; where it is of jumps or paths (20, 21, 22, 38), by the text alone.
+and how many locks are open; where it is of jumps or paths (20, 21, 22, 38), by the text and, of a jump, the cause.
 
 With --asm, FILE is a text of instructions as `bpfrt asm --file` reads it. A refusal is followed by `line L: TEXT`,
 the line in which the instruction stands; a text that is none is refused as `bpfrt asm` does.
@@ -103,12 +103,13 @@ const POOL_HELP: &str = "\
 Reads a program file as `bpfrt check` does, verifies it, and then runs it COUNT times by WORKERS threads that
 share one world of the file's maps. Each job starts the program on its context, steps it to its exit, and drops
 the run. The context is zeros; with --contexts or --packed the jobs take those of a file in turn, job 0 the first,
-and begin again behind the last. Where no job changes a map and the maps are small, each 512 jobs have a world of
-their own, so that no worker waits for another.
+and begin again behind the last. Where no job changes a map, the maps are small and the jobs fit one journal, each
+512 jobs have a world of their own, so that no worker waits for another.
 
 Prints a line for each job in order, `job I exit V`, or `job I stopped C` where an event of the job was refused
 or not applied, those of 16,384 jobs as soon as these are done; then `entries N`, how many events the journals have.
-With --explain, a refusal is followed on standard error by what `bpfrt check` says, or by the limits of pools.
+With --explain, a refusal is followed on standard error by what `bpfrt check` says, by what is wrong with the file of
+contexts, or by the limits of pools.
 
 Status, and the line on standard error:
   0  all jobs are done; also where jobs stopped

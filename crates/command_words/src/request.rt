@@ -17,14 +17,18 @@ pub struct MapElement {
     pub value: Vec<u8>,
 }
 
-/// What one run is made on: its context, and the elements that are put into its maps before; whether the maps' elements
-/// are written behind it, whether a refusal is told in words too, and whether the answer is a JSON object.
+/// What one run is made on, and how it is told.
 #[derive(Debug, Drop)]
 pub struct SingleRun {
+    /// The bytes of its context.
     pub context: Vec<u8>,
+    /// What is put into its maps before it, in this order.
     pub elements: Vec<MapElement>,
+    /// Whether the maps' elements are written behind it.
     pub dump: bool,
+    /// Whether a refusal is told in words, too.
     pub explain: bool,
+    /// Whether the answer is a JSON object.
     pub json: bool,
 }
 

@@ -50,8 +50,8 @@ fn place_of(why: &TextFault) -> (u8, Option<usize>) {
     }
 }
 
-/// Writes why a text is none of a program, `refused C at L` for an instruction's line, `refused C` or `fault C at L` for a
-/// line of the head, or the fault where memory ran out, in words too where it is asked for, and answers the status.
+/// Writes why a text is none of a program: `refused C at L` for an instruction's line, `fault C at L` for a line of the head,
+/// else `refused C`. Where memory ran out it writes that fault, in words too where these are asked for. Answers the status.
 fn report_fault_line<E: Write>(
     err: &mut E,
     source: &SourceText,
@@ -138,9 +138,12 @@ pub fn report_text_fault<E: Write>(
     status
 }
 
-/// Warns that the head of a text is no part of what is written.
-fn warn_of_head<E: Write>(bytes: &[u8], form: AsmForm, err: &mut E) {
-    if form == AsmForm::Bytes && has_head(bytes) {
+/// The head of a text that has no maps and an empty context, as a raw file has.
+const EMPTY_HEAD: &[u8] = b"ctx 0\ncode\n";
+
+/// Warns that bytes alone leave out the context or the maps of the text that was read, if it has any.
+fn warn_of_head<E: Write>(read: &[u8], form: AsmForm, err: &mut E) {
+    if form == AsmForm::Bytes && has_head(read) && !read.starts_with(EMPTY_HEAD) {
         let _ = writeln!(
             err,
             "the bytes have neither the context nor the maps above `code`: --file writes a file with them"

@@ -157,7 +157,7 @@ fn check_made<W: Write, E: Write>(
     err: &mut E,
 ) -> u8
     ensures status { (result ≡ 0) ⊎ (result ≡ 1) ⊎ (result ≡ 3) }
-    // The program file that the text makes would be answered so. It is not made.
+    // As `check_file` answers the program file that the text makes.
     ensures accepted { result ≡ 0 → WritesAccepted how.now.json (W.contents out.old) (W.contents out.new)
         (file_text made.head.text made.program) }
     ensures refused { result ≡ 1 → RefusesFile how.now.json (W.contents out.old) (W.contents out.new)

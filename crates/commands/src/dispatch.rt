@@ -51,14 +51,16 @@ fn run_disasm<R: Read, W: Write, E: Write>(
     }
 }
 
-/// Runs a command on its input, its file's bytes or a script, and answers the exit status: 0 fine, 1 refused or a line that is
-/// wrong, 3 a fault of memory (13), of reading (96) or of writing (97). A refusal or a fault is one line on `err`; more stands there
-/// where words or a log are asked for, and behind the refusal of a text. After a refusal of a file nothing was written on `out`, or,
-/// of a program file, a JSON object where that was asked for. After line L of a script is wrong (95) the answers of the lines before
-/// were; after a fault of writing, of a script or of a pool a part may have been. Which fault it was, and that there was one, no
-/// clause says: status 3 tells nothing. A reader of a file that is too large fails by `FileTooLarge`, which is 13 too. That a pool
-/// returns is not claimed: it waits for a lock. The contexts are the bytes of the file that the command names beside its own
-/// (`BpfrtCommand::contexts_file`), and of no use to a command that names none.
+/// Runs a command on its input: the bytes of its file, or a script. `contexts` are the bytes of the file that the command names
+/// beside its own (`BpfrtCommand::contexts_file`); a command that names none does not read them. Answers the exit status:
+/// - 0: all is done.
+/// - 1: the input is refused, or a line of it is wrong. Then a command on a file has written nothing on `out`, or the JSON object
+///   that was asked for. A script has written the answers to the lines before the wrong one (95).
+/// - 3: memory ran out (13), reading failed (96), or writing did (97). A reader that fails by `FileTooLarge` is 13, too. A part
+///   of the output may have been written. No clause says which fault it was, or that there was one.
+///
+/// A refusal or a fault is one line on `err`. More stands there where words or a log are asked for, and behind the refusal of
+/// a text. No clause says that a pool returns: it waits for a lock.
 pub fn run<H: Threads + Wait + Sync, R: Read, W: Write, E: Write>(
     rt: &H,
     alloc: Global,

@@ -1,10 +1,5 @@
 //! The elements of a world's maps.
-ghost use Rattle.std.specs.Prelude.{◌≡◌, ◌∷◌, ◌++◌, [], List, ℕ, None, OnOk, slice_get};
-ghost use Rattle.std.specs.List.{flat_map};
-ghost use Rattle.script_lines.specs.declared.reply.Reply.{Reply};
-ghost use Rattle.script_lines.specs.declared.reply.Reply.TheVariants.{End};
-ghost use Rattle.script_lines.specs.ReplyText.{reply_text};
-ghost use Rattle.control.specs.Replies.{AreElements};
+ghost use Rattle.std.specs.Prelude.{◌≡◌, ◌++◌, List, ℕ, OnOk};
 ghost use Rattle.commands.specs.Runs.{AreDumps};
 
 use bpf_model::MapId;

@@ -73,7 +73,7 @@ fn report_filter_fault<E: Write>(
     status
 }
 
-/// Where a file was written, writes of which packets it tells something else than of all their bytes, if there are such.
+/// Notes, where a file was written, the first load that may lie past the bytes of a packet that a context has, if one may.
 fn note_beyond<E: Write>(err: &mut E, status: u8, beyond: Option<usize>) {
     if let (0, Some(number)) = (status, beyond) {
         let _ = writeln!(

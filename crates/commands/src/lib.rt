@@ -20,11 +20,8 @@ mod single;
 mod source_text;
 mod streams;
 
-pub use command_words::{
-    AsmForm, BpfrtCommand, Checking, ContextForm, ContextsFile, InputFile, MapElement, SingleRun,
-    WordsFault, parse_words,
-};
+pub use command_words::{BpfrtCommand, InputFile, WordsFault, parse_words};
 pub use dispatch::run;
-pub use program_files::read_text;
+pub use program_files::{HEADING, TEXT_BYTES, read_text};
 pub use report::no_command;
 pub use streams::read_failed;

@@ -21,28 +21,20 @@ pub struct RefusalWords {
 /// What is told where a refusal has no meaning but that memory ran out.
 const NO_MEANING: Meaning = Meaning { name: "", text: "" };
 
-/// The name that stands in front of these words, and the meaning behind it; none where nothing stands there.
-fn meaning(words: &'static str) -> Option<Meaning> {
-    let (name, text) = words.split_once(": ")?;
-    Some(Meaning { name, text })
-}
-
 /// What a refusal means; none where memory ran out or a result was lost.
 pub fn meaning_of_refusal(refusal: &CommandRefusal) -> Option<Meaning> {
-    match refusal {
-        CommandRefusal::File(verdict) => meaning_of(verdict),
-        CommandRefusal::Event(refusal) => Some(meaning_of_event(*refusal)),
-        CommandRefusal::NoPlace => meaning(
+    let words = match refusal {
+        CommandRefusal::File(verdict) => return meaning_of(verdict),
+        CommandRefusal::Event(refusal) => return Some(meaning_of_event(*refusal)),
+        CommandRefusal::NoPlace =>
             "NoPlace: an element is not put, since its map has as many as it may have, no map slot is free, or the index is past the array's end",
-        ),
         CommandRefusal::Pool(PoolFault::BadWorkers) => {
-            meaning("BadWorkers: the number of workers is not 1 to 8")
+            "BadWorkers: the number of workers is not 1 to 8"
         }
-        CommandRefusal::Pool(PoolFault::TooManyJobs) => {
-            meaning("TooManyJobs: more than 65,536 jobs")
-        }
-        CommandRefusal::Pool(PoolFault::Memory | PoolFault::Lost) => None,
-    }
+        CommandRefusal::Pool(PoolFault::TooManyJobs) => "TooManyJobs: more than 65,536 jobs",
+        CommandRefusal::Pool(PoolFault::Memory | PoolFault::Lost) => return None,
+    };
+    Some(Meaning::of(words))
 }
 
 /// What is told above the meaning of a refusal of a run whose program is accepted.
@@ -75,10 +67,10 @@ const BAD_LINE: &str =
 /// What a fault of instructions means; none where memory ran out.
 fn of_asm(flaw: &AsmFault) -> Option<Meaning> {
     match flaw {
-        AsmFault::BadLine(_) => meaning(BAD_LINE),
-        AsmFault::BadOperand(_) => {
-            meaning("BadOperand: a register, number, offset or width out of its range")
-        }
+        AsmFault::BadLine(_) => Some(Meaning::of(BAD_LINE)),
+        AsmFault::BadOperand(_) => Some(Meaning::of(
+            "BadOperand: a register, number, offset or width out of its range",
+        )),
         AsmFault::TooLong => meaning_of(&Verdict::Code(DecodeFault::TooLong)),
         AsmFault::Empty => meaning_of(&Verdict::Code(DecodeFault::Empty)),
         AsmFault::Memory => None,
@@ -88,7 +80,7 @@ fn of_asm(flaw: &AsmFault) -> Option<Meaning> {
 /// What a fault of a text of instructions means; none where memory ran out.
 pub fn meaning_of_text(why: &TextFault) -> Option<Meaning> {
     match why {
-        TextFault::NotUtf8 { .. } | TextFault::Unnamed { .. } => meaning(BAD_LINE),
+        TextFault::NotUtf8 { .. } | TextFault::Unnamed { .. } => Some(Meaning::of(BAD_LINE)),
         TextFault::Flawed { flaw, .. } => of_asm(flaw),
         TextFault::BadHead { line } => {
             meaning_of(&Verdict::File(LoadFault::BadFile { line: *line }))
@@ -101,21 +93,22 @@ pub fn meaning_of_text(why: &TextFault) -> Option<Meaning> {
 const BAD_ROW: &str =
     "BadLine: one of the first so many lines is not `CODE JT JF K` in decimal, each in its range";
 
-/// What it means that bytes list no classic program; nothing where memory ran out.
-fn of_listing(fault: &ReadFault) -> &'static str {
-    match fault {
+/// What it means that bytes list no classic program; none where memory ran out.
+fn of_listing(fault: &ReadFault) -> Option<&'static str> {
+    let words = match fault {
         ReadFault::BadCount => {
             "BadCount: the first line is no number, or more lines are below it than it says, or fewer"
         }
         ReadFault::BadLine(_) => BAD_ROW,
         ReadFault::CutRecord => "CutRecord: the number of bytes is not a multiple of 8",
-        ReadFault::Memory => "",
-    }
+        ReadFault::Memory => return None,
+    };
+    Some(words)
 }
 
-/// What it means that instructions are no classic program; nothing where memory ran out.
-fn of_classic(fault: &ClassicFault) -> &'static str {
-    match fault {
+/// What it means that instructions are no classic program; none where memory ran out.
+fn of_classic(fault: &ClassicFault) -> Option<&'static str> {
+    let words = match fault {
         ClassicFault::Empty => "Empty: there is no instruction",
         ClassicFault::TooLong => "TooLong: more than 4,096 instructions",
         ClassicFault::UnknownOpcode(_) => "UnknownOpcode: the code stands for no instruction",
@@ -136,28 +129,31 @@ fn of_classic(fault: &ClassicFault) -> &'static str {
         ClassicFault::PolicyRemainder(_) => {
             "PolicyRemainder: a `mod`, which Linux refuses in a policy"
         }
-        ClassicFault::Memory => "",
-    }
+        ClassicFault::Memory => return None,
+    };
+    Some(words)
 }
 
-/// What it means that a classic program has no translation; nothing where memory ran out.
-fn of_translation(fault: &TranslateFault) -> &'static str {
-    match fault {
+/// What it means that a classic program has no translation; none where memory ran out.
+fn of_translation(fault: &TranslateFault) -> Option<&'static str> {
+    let words = match fault {
         TranslateFault::OutsideWindow(_) => {
-            "OutsideWindow: a load at a constant offset past the 248 bytes of packet that a context has"
+            "OutsideWindow: a load whose constant offset alone leads past the 248 bytes of packet that a context has"
         }
         TranslateFault::TooManySlots => "TooManySlots: the translation takes more than 4,096 slots",
-        TranslateFault::Memory => "",
-    }
+        TranslateFault::Memory => return None,
+    };
+    Some(words)
 }
 
 /// What a fault of a classic program means; none where memory ran out.
 pub fn meaning_of_filter(why: &FilterFault) -> Option<Meaning> {
-    meaning(match why {
+    let words = match why {
         FilterFault::NotUtf8 { .. } => BAD_ROW,
-        FilterFault::Unread(fault) => of_listing(fault),
-        FilterFault::Flawed(fault) => of_classic(fault),
-        FilterFault::Untranslated(fault) => of_translation(fault),
-        FilterFault::Memory => "",
-    })
+        FilterFault::Unread(fault) => of_listing(fault)?,
+        FilterFault::Flawed(fault) => of_classic(fault)?,
+        FilterFault::Untranslated(fault) => of_translation(fault)?,
+        FilterFault::Memory => return None,
+    };
+    Some(Meaning::of(words))
 }

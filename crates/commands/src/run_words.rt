@@ -3,7 +3,7 @@ ghost use Rattle.bpf_model.specs.View.{AreNewMaps};
 
 use crate::puts::puts_of;
 use crate::refusal::CommandRefusal;
-use bpf_model::{Answer, Errno, EventRefusal, MapId, MapKind, MapShape};
+use bpf_model::{Answer, Errno, EventRefusal, MapKind, MapShape};
 use command_words::{MapElement, SingleRun};
 use hex::encode;
 use maps::Registry;
@@ -11,22 +11,8 @@ use program_files::{FileBytes, HEADING, Source};
 use std::alloc::Global;
 use std::io;
 use std::io::Write;
-use texts::write_length;
+use texts::{write_length, write_names};
 use world::World;
-
-/// Writes the names of a file's maps.
-fn write_names<W: Write>(out: &mut W, maps: &Registry) -> io::Result<()> {
-    if maps.len() == 0 {
-        return writeln!(out, "the file has no maps");
-    }
-    write!(out, "the file's maps are")?;
-    for number in 0..maps.len() {
-        if let Some(name) = maps.name(MapId::new(number)) {
-            write!(out, " `{name}`")?;
-        }
-    }
-    writeln!(out)
-}
 
 /// Writes what is wrong with the first element that names no map of the file, or has another length than its map's.
 fn write_misfit<W: Write>(out: &mut W, maps: &Registry, elements: &[MapElement]) -> io::Result<()> {
@@ -34,7 +20,7 @@ fn write_misfit<W: Write>(out: &mut W, maps: &Registry, elements: &[MapElement])
         let map = element.map.as_str();
         let Some(shape) = shape_named(maps, map) else {
             write!(out, "  --map names {map:?}; ")?;
-            return write_names(out, maps);
+            return write_names(out, maps, "the file's maps are", "the file has no maps");
         };
         let (key, value) = (element.key.len(), element.value.len());
         if key != shape.key_len || value != shape.value_len {

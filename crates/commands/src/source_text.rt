@@ -1,5 +1,5 @@
 //! What is read of a text of instructions: its lines above `code` without comments.
-ghost use Rattle.std.specs.Prelude.{◌≡◌, ℕ, List, IfOk};
+ghost use Rattle.std.specs.Prelude.{IfOk};
 ghost use Rattle.commands.specs.Sources.{IsRead, IsReadByParts};
 
 use asm_source::{Tokens, fed_text, head_text};

@@ -12,20 +12,19 @@ use std::io::{ErrorKind, Write};
 pub fn read_failed<E: Write>(err: &mut E, error: &io::Error) -> u8
     ensures { result ≡ 3 }
 {
-    if error.kind() == ErrorKind::FileTooLarge {
-        return out_of_memory(err, false);
-    }
-    report_fault(err, stream_fault(error, ScriptFault::Read).code())
+    read_failed_in_words(err, error, false)
 }
 
-/// The status where an input cannot be read, which is told as `read_failed` does, and in words where that is asked for.
+/// The status where an input cannot be read, which is told as `read_failed` does. That memory ran out is told in words, too,
+/// where these are asked for.
 pub fn read_failed_in_words<E: Write>(err: &mut E, error: &io::Error, in_words: bool) -> u8
     ensures { result ≡ 3 }
 {
-    if error.kind() == ErrorKind::OutOfMemory {
-        return out_of_memory(err, in_words);
+    match error.kind() {
+        ErrorKind::OutOfMemory => out_of_memory(err, in_words),
+        ErrorKind::FileTooLarge => out_of_memory(err, false),
+        _ => report_fault(err, ScriptFault::Read.code()),
     }
-    read_failed(err, error)
 }
 
 /// Writes all of a text, and flushes the stream.

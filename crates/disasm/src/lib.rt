@@ -5,9 +5,11 @@
 #![tactic(auto)]
 
 mod mnemonic;
+mod names;
 mod statement;
 mod writing;
 
 pub use mnemonic::{MNEMONICS, Mnemonic};
-pub use statement::{Argument, Arguments, Sign, Statement, statement_of};
+pub use names::mnemonic_named;
+pub use statement::{Argument, Arguments, Sign, Statement};
 pub use writing::{disassemble, line_of};

@@ -204,7 +204,7 @@ fn arguments_for(insn: &Insn) -> Arguments
 }
 
 /// How an instruction is written.
-pub fn statement_of(insn: &Insn) -> Statement
+pub(crate) fn statement_of(insn: &Insn) -> Statement
     ensures { result ≡ statement_of insn.now }
 {
     Statement {

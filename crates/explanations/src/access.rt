@@ -12,12 +12,12 @@ pub struct Access {
 
 impl Access {
     /// An access of so many bytes.
-    fn new(base: Reg, offset: i16, width: Width) -> Option<Access> {
-        Some(Access {
+    fn new(base: Reg, offset: i16, width: Width) -> Access {
+        Access {
             base,
             offset,
             length: width.bytes(),
-        })
+        }
     }
 }
 
@@ -29,13 +29,13 @@ pub fn loaded(insn: &Insn) -> Option<Access> {
             src,
             offset,
             ..
-        } => Access::new(*src, *offset, *width),
+        } => Some(Access::new(*src, *offset, *width)),
         Insn::LoadSigned {
             width,
             src,
             offset,
             ..
-        } => Access::new(*src, *offset, width.width()),
+        } => Some(Access::new(*src, *offset, width.width())),
         _ => None,
     }
 }
@@ -48,7 +48,7 @@ pub fn accessed(insn: &Insn) -> Option<Access> {
             dst,
             offset,
             ..
-        } => Access::new(*dst, *offset, *width),
+        } => Some(Access::new(*dst, *offset, *width)),
         _ => loaded(insn),
     }
 }

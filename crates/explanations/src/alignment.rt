@@ -1,8 +1,10 @@
 //! How an access begins at no multiple of its width, in words.
 
+ghost use Rattle.std.specs.Prelude.{◌≤◌};
+
 use crate::access::{Access, accessed};
 use crate::place::Place;
-use bpf_model::{FRAME_BYTES, Insn};
+use bpf_model::{FRAME_BYTES, Insn, Operand};
 use register_kinds::{ORIGIN, RegKind};
 use scalar_domain::Scalar;
 use std::io;
@@ -29,7 +31,7 @@ fn write_region<W: Write>(
     )
 }
 
-/// A number that has each bit that may be set where an access may begin; of one offset alone that place.
+/// A number that 2 and 4 divide only where they divide each place at which an access may begin; of one offset alone that place.
 fn bits_of(offsets: &Scalar, behind: i64) -> u64 {
     let more = behind.cast_unsigned();
     if offsets.least == offsets.greatest {
@@ -40,7 +42,9 @@ fn bits_of(offsets: &Scalar, behind: i64) -> u64 {
 }
 
 /// How many bytes may be accessed at once where a number with these bits is the place: the most, and fewer than `width`.
-fn piece_of(bits: u64, width: usize) -> usize {
+fn piece_of(bits: u64, width: usize) -> usize
+    ensures { 1 ≤ result }
+{
     if width > 4 && bits % 4 == 0 {
         4
     } else if width > 2 && bits % 2 == 0 {
@@ -53,10 +57,14 @@ fn piece_of(bits: u64, width: usize) -> usize {
 /// Writes in which pieces an access may be made instead, where a number with these bits is the place.
 fn write_pieces<W: Write>(out: &mut W, insn: &Insn, bits: u64, width: usize) -> io::Result<()> {
     let piece = piece_of(bits, width);
-    let count = if piece == 0 { 1 } else { width / piece };
+    let count = width / piece;
     let unit = if piece == 1 { "byte" } else { "bytes" };
     match insn {
         Insn::Store { .. } => writeln!(out, ": write {count} stores of {piece} {unit}"),
+        Insn::LoadSigned { .. } => writeln!(
+            out,
+            ": write {count} loads of {piece} {unit}, the highest with its sign, and put them together by `lsh64` and `or64`"
+        ),
         _ => writeln!(
             out,
             ": write {count} loads of {piece} {unit}, and put them together by `lsh64` and `or64`"
@@ -76,6 +84,17 @@ fn write_at_offsets<W: Write>(
     write_pieces(out, insn, bits_of(offsets, behind), access.length)
 }
 
+/// Whether an instruction stores a pointer or a map, which is stored whole.
+fn stores_pointer(place: Place<'_>) -> bool {
+    match place.insn {
+        Insn::Store {
+            src: Operand::Register(src),
+            ..
+        } => place.kind(*src).is_some_and(|kind| kind.is_pointer()),
+        _ => false,
+    }
+}
+
 /// Writes where a load or a store begins that begins at no multiple of its width, and what to write instead.
 pub fn write_alignment<W: Write>(out: &mut W, place: Place<'_>) -> io::Result<()> {
     let insn = place.insn;
@@ -90,6 +109,12 @@ pub fn write_alignment<W: Write>(out: &mut W, place: Place<'_>) -> io::Result<()
                 out,
                 "  it begins at r10{first:+}, which is no multiple of {width}"
             )?;
+            if stores_pointer(place) {
+                return writeln!(
+                    out,
+                    ": a pointer stands in the frame whole, at such a multiple"
+                );
+            }
             write_pieces(out, insn, first.cast_unsigned(), width)
         }
         Some(RegKind::Ctx(offsets)) => write_at_offsets(out, insn, access, offsets),

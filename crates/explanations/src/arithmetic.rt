@@ -95,6 +95,12 @@ pub fn write_no_number<W: Write>(out: &mut W, register: Reg, why: &str) -> io::R
 /// Writes that a pointer is added to a number, and how the number is added to the pointer.
 fn write_turned<W: Write>(out: &mut W, pointer: Reg, number: Reg) -> io::Result<()> {
     let (pointer, number) = (pointer.index(), number.index());
+    if pointer == 10 {
+        return writeln!(
+            out,
+            "  r10 is a pointer that nothing moves: copy it by `mov64`, and add the number to the copy"
+        );
+    }
     writeln!(
         out,
         "  r{pointer} is a pointer: add the number to it, as `add64 r{pointer}, r{number}`. In C move the pointer first, as `q = data + off`, and then use `q[i]`"
@@ -112,14 +118,16 @@ fn write_operation<W: Write>(
 ) -> io::Result<()> {
     let is_move = matches!(op, AluOp::Add | AluOp::Sub);
     if let Some(by) = reference_in(place, src) {
-        if op == AluOp::Add && size == Size::Word64 && !is_reference(place, dst) {
+        let is_number = !is_reference(place, dst);
+        let is_map = matches!(place.kind(by), Some(RegKind::Map(_)));
+        if is_number && (is_map || !is_move) {
+            return write_no_number(out, by, COMPUTED);
+        }
+        if is_number && op == AluOp::Add && size == Size::Word64 {
             return write_turned(out, by, dst);
         }
         if is_move {
             return write_no_number(out, by, "only a number moves a pointer");
-        }
-        if !is_reference(place, dst) {
-            return write_no_number(out, by, COMPUTED);
         }
     }
     match (place.kind(dst), numbers_of(place, src)) {

@@ -26,7 +26,7 @@ fn distance_of(insn: &Insn) -> Option<i64> {
     }
 }
 
-/// Writes where a jump leads that stands at a slot, and what is there.
+/// Writes where a jump leads that stands at a slot, forward to no instruction's start, and what is there.
 fn write_target<W: Write>(
     out: &mut W,
     source: &Source,
@@ -38,9 +38,7 @@ fn write_target<W: Write>(
     };
     let behind = i64::try_from(slot).unwrap_or(0).saturating_add(1);
     let target = behind.saturating_add(distance);
-    let Ok(place) = usize::try_from(target) else {
-        return writeln!(out, "  it leads to slot {target}, before the first one");
-    };
+    let place = usize::try_from(target).unwrap_or(0);
     let last = source.program.slot_count().saturating_sub(1);
     if place > last {
         return writeln!(
@@ -49,23 +47,16 @@ fn write_target<W: Write>(
         );
     }
     let first = place.saturating_sub(1);
-    let starts = source.program.starts();
-    if starts.contains(&first) && !starts.contains(&place) {
-        return writeln!(
-            out,
-            "  it leads to slot {place}, the second half of the instruction at {first}"
-        );
-    }
-    Ok(())
+    writeln!(
+        out,
+        "  it leads to slot {place}, the second half of the instruction at {first}"
+    )
 }
 
 /// Writes the maps of a program by their numbers.
 fn write_maps<W: Write>(out: &mut W, source: &Source) -> io::Result<()> {
     if source.registry.len() == 0 {
-        return writeln!(
-            out,
-            "  the program has no maps: a file without `bpfrt 1` never has"
-        );
+        return writeln!(out, "  the program has no maps: raw bytes never have");
     }
     write!(out, "  the program's maps are")?;
     for number in 0..source.registry.len() {

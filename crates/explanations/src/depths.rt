@@ -8,8 +8,11 @@ use std::io;
 use std::io::Write;
 use verifier::falls;
 
-/// For each number of locks, 0 to `MAX_DEPTH`, whether so many are open on some path.
-type Depths = [bool; 9];
+/// How many numbers of locks may be open: 0 to `MAX_DEPTH`.
+const COUNTS: usize = MAX_DEPTH + 1;
+
+/// For each number of locks whether so many are open on some path.
+type Depths = [bool; COUNTS];
 
 /// How many locks are open behind an instruction; none where it is refused.
 fn behind(insn: &Insn, depth: usize) -> Option<usize> {
@@ -47,12 +50,12 @@ fn depths_of(
     instructions: &[Insn],
     targets: &[Option<usize>],
 ) -> Result<Vec<Depths>, AllocError> {
-    let mut all = vec![in alloc; [false; 9]; instructions.len()]?;
+    let mut all = vec![in alloc; [false; COUNTS]; instructions.len()]?;
     if let Some(entry) = all.get_mut(0) {
         entry[0] = true;
     }
     for (index, insn) in instructions.iter().enumerate() {
-        let before = all.get(index).copied().unwrap_or([false; 9]);
+        let before = all.get(index).copied().unwrap_or([false; COUNTS]);
         if falls(insn) {
             put(&mut all, index.saturating_add(1), insn, &before);
         }

@@ -79,10 +79,7 @@ fn meaning_there(
     else {
         return meaning_of(&Verdict::Program(refusal));
     };
-    match known {
-        Some(state) => Some(unpaired(insn, Some(state.depth))),
-        None => Some(unpaired(insn, None)),
-    }
+    Some(unpaired(insn, known.as_ref().map(|state| state.depth)))
 }
 
 /// Writes why an instruction has a fault, before which this is known.
@@ -167,7 +164,7 @@ fn write_code_fault<W: Write>(
     out: &mut W,
 ) -> io::Result<()> {
     let bytes = kept_of(file);
-    if !bytes.starts_with(HEADING) && *fault != DecodeFault::Memory {
+    if !bytes.starts_with(HEADING) {
         write_likeness(out, bytes)?;
     }
     match slot_shown(fault) {

@@ -20,7 +20,7 @@ impl Meaning {
     }
 
     /// What `NAME: MEANING` says.
-    fn of(words: &'static str) -> Meaning {
+    pub fn of(words: &'static str) -> Meaning {
         let (name, text) = words.split_once(": ").unwrap_or((words, ""));
         Meaning { name, text }
     }

@@ -150,7 +150,8 @@ fn write_loaded<W: Write>(out: &mut W, place: Place<'_>, part: FramePart) -> io:
         return Ok(());
     }
     let below = FRAME_BYTES.saturating_sub(group.saturating_mul(8));
-    writeln!(out, "  r10-{below}: of different kinds on different paths")
+    let words = byte_words(place.fault).unwrap_or("");
+    writeln!(out, "  r10-{below}: {words}")
 }
 
 /// Writes which bytes of the frame that an instruction reads are the cause of its fault, if some are.

@@ -20,10 +20,9 @@ pub use contexts::{ContextsFault, contexts_in_lines, packed_contexts};
 pub use file_check::{Accepted, check, check_source, text_of};
 pub use head::{Head, read_head};
 pub use likeness::{
-    Likeness, are_hexadecimal, has_slots, is_slot, likeness_of, mnemonic_named, write_likeness,
-    write_looks,
+    Likeness, are_hexadecimal, has_slots, is_slot, likeness_of, write_likeness, write_looks,
 };
-pub use program_file::{FileBytes, Source, read_file, read_text};
+pub use program_file::{FileBytes, Source, TEXT_BYTES, read_file, read_text};
 pub use refused::{RefusedFile, RefusedProgram};
 pub use verdict::Verdict;
 pub use verified_file::{VerifiedSource, shapes_of, verify_for_maps, verify_source};

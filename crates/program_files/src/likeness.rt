@@ -1,6 +1,7 @@
 //! What bytes look like that are not what was asked for.
 
-use disasm::{MNEMONICS, Mnemonic};
+use crate::loader::HEADING;
+use disasm::mnemonic_named;
 use std::io::Write;
 use std::{io, str};
 
@@ -76,13 +77,6 @@ pub(crate) fn first_word(line: &str) -> &str {
     line.split_ascii_whitespace().next().unwrap_or("")
 }
 
-/// The mnemonic of this name.
-pub fn mnemonic_named(name: &str) -> Option<Mnemonic> {
-    let is_named = |mnemonic: &&Mnemonic| name.strip_prefix(mnemonic.stem())
-        == Some(mnemonic.suffix());
-    MNEMONICS.iter().find(is_named).copied()
-}
-
 /// Whether a line is one of assembly, by its first word.
 pub(crate) fn is_instruction(line: &str) -> bool {
     let word = first_word(line);
@@ -125,7 +119,7 @@ pub fn has_slots(text: &str) -> bool {
 const BEGINNINGS: [(&[u8], Likeness); 4] = [
     (b"\x7fELF", Likeness::Object),
     (b"\xef\xbb\xbf", Likeness::Marked),
-    (b"bpfrt 1\n", Likeness::ProgramFile),
+    (HEADING, Likeness::ProgramFile),
     (b"bpfrt 1\r\n", Likeness::CarriageReturns),
 ];
 

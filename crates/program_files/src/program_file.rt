@@ -19,15 +19,16 @@ use std::io::{ErrorKind, Read};
 /// How many bytes are read at once.
 const CHUNK: usize = 4096;
 
-/// Where so many bytes of a text are kept, 16 MiB, no more are taken. A sound text of `MAX_SLOTS`
-/// slots has fewer than 75,000.
-const TEXT_BYTES: usize = 16 << 20;
+/// The most bytes of a text, 16 MiB. A sound text of `MAX_SLOTS` slots has fewer than 75,000.
+pub const TEXT_BYTES: usize = 16 << 20;
 
 /// A program, and what it is verified against.
 #[derive(Drop)]
 pub struct Source {
     pub program: Program,
+    /// The maps that the program names by their numbers.
     pub registry: Registry,
+    /// How many bytes the context has, at most `CTX_BYTES`.
     pub ctx_len: usize,
 }
 
@@ -68,8 +69,7 @@ impl FileBytes {
         FileBytes::Whole(Vec::new(alloc))
     }
 
-    /// Adds the bytes that follow. A text of `TEXT_BYTES` or more grows no further: that is want of
-    /// memory.
+    /// Adds the bytes that follow. A text of more than `TEXT_BYTES` is want of memory.
     fn append(&mut self, alloc: Global, chunk: &[u8]) -> Result<(), AllocError>
         requires { length chunk.now ≤ CHUNK }
         ensures { (bytes : List ℕ) → HoldsBytes self.old bytes →
@@ -79,7 +79,7 @@ impl FileBytes {
             FileBytes::Whole(bytes)
                 if chunk.len() <= (8 * MAX_SLOTS).saturating_sub(bytes.len())
                     || bytes.starts_with(HEADING) => {
-                if bytes.len() >= TEXT_BYTES {
+                if chunk.len() > TEXT_BYTES.saturating_sub(bytes.len()) {
                     return Err(AllocError);
                 }
                 bytes.extend_from_slice(chunk)?;
@@ -118,8 +118,7 @@ impl FileBytes {
 }
 
 /// Reads a file to its end. Of a raw file it keeps a program's bytes alone, however long it is; a
-/// text is kept as a whole, and one that goes on where `TEXT_BYTES` or more are kept is want of
-/// memory.
+/// text is kept as a whole, and one of more than `TEXT_BYTES` is want of memory.
 pub fn read_file<R: Read>(alloc: Global, input: &mut R) -> io::Result<FileBytes>
     ensures { IfOk result (λ file. IfSome (R.remaining input.old) (HoldsBytes file)) }
 {
@@ -135,7 +134,7 @@ pub fn read_file<R: Read>(alloc: Global, input: &mut R) -> io::Result<FileBytes>
     Err(io::Error::from(ErrorKind::FileTooLarge))
 }
 
-/// Reads a text to its end. One that goes on where `TEXT_BYTES` or more are kept is want of memory.
+/// Reads a text to its end. One of more than `TEXT_BYTES` is want of memory.
 pub fn read_text<R: Read>(alloc: Global, input: &mut R) -> io::Result<Vec<u8>>
     ensures { IfOk result (λ text. IfSome (R.remaining input.old) (λ bytes. text.items ≡ bytes)) }
 {
@@ -146,7 +145,7 @@ pub fn read_text<R: Read>(alloc: Global, input: &mut R) -> io::Result<Vec<u8>>
         if count == 0 {
             return Ok(text);
         }
-        if text.len() >= TEXT_BYTES {
+        if count > TEXT_BYTES.saturating_sub(text.len()) {
             return Err(io::Error::from(ErrorKind::OutOfMemory));
         }
         text.extend_from_slice(&chunk[..count])?;

@@ -70,7 +70,8 @@ pub fn lines_above(parts: &Split<'_>) -> usize {
         .map_or(0, |head| lines_in(head.as_bytes()).saturating_add(2))
 }
 
-/// The program that a plain text has. A text that is not UTF-8 is told as want of memory: that of UTF-8 is.
+/// The program that a plain text has. A plain text that is not UTF-8 would be answered as `Memory`. None is: its source is
+/// UTF-8, though no clause says that this stays so.
 fn program_of(alloc: Global, lines: &[u8]) -> Result<Program, AsmFault>
     ensures found { IfOk result (λ p. statements_in lines.now ≡ map line_of p) }
     ensures program { IfOk result IsProgram }

@@ -4,9 +4,8 @@ use crate::naming::{comment_words, parts_words, quoted};
 use crate::other_names::unknown_mnemonic;
 use asm::{AsmFault, assemble};
 use asm_source::{is_name, is_register, number_in};
-use disasm::Mnemonic;
+use disasm::{Mnemonic, mnemonic_named};
 use explanations::FUNCTIONS;
-use program_files::mnemonic_named;
 use std::alloc::{AllocError, Global};
 
 /// What may stand in a place of an operand.

@@ -19,7 +19,7 @@ mod wrong_text;
 pub use assembly::{Assembled, TextFault, assemble_text};
 pub use explaining::Explaining;
 pub use heads::{Split, has_head, parts_of};
-pub use refused_line::write_length;
+pub use refused_line::{write_length, write_names};
 pub use translation::{FilterFault, FilterFile, make_file};
 pub use wrong_command::has_prefix;
 pub use wrong_filter::explain_filter;

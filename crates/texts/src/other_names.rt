@@ -2,8 +2,8 @@
 
 use crate::naming::quoted;
 use asm_source::is_register;
-use disasm::MNEMONICS;
-use program_files::{is_slot, mnemonic_named};
+use disasm::{MNEMONICS, mnemonic_named};
+use program_files::is_slot;
 use std::alloc::{AllocError, Global};
 use strsim::jaro_winkler;
 

@@ -74,13 +74,19 @@ fn write_misfit<W: Write>(out: &mut W, session: &Session, words: &[&[u8]]) -> io
     write_length(out, name, "VALUE", value, shape.value_len)
 }
 
-/// Writes the names of the maps.
-fn write_names<W: Write>(out: &mut W, session: &Session) -> io::Result<()> {
-    let maps = session.registry();
+/// Writes the names of these maps behind the one text, or the other text where there are none.
+///
+/// An error says that nothing more could be written.
+pub fn write_names<W: Write>(
+    out: &mut W,
+    maps: &Registry,
+    some: &str,
+    none: &str,
+) -> io::Result<()> {
     if maps.len() == 0 {
-        return writeln!(out, "the script has made no map");
+        return writeln!(out, "{none}");
     }
-    write!(out, "the script's maps are")?;
+    write!(out, "{some}")?;
     for number in 0..maps.len() {
         if let Some(name) = maps.name(MapId::new(number)) {
             write!(out, " `{name}`")?;
@@ -101,7 +107,8 @@ fn write_no_map<W: Write>(out: &mut W, session: &Session, words: &[&[u8]]) -> io
             write!(out, "  no map is called ")?;
             write_quoted(out, name, SHOWN)?;
             write!(out, "; ")?;
-            return write_names(out, session);
+            let (some, none) = ("the script's maps are", "the script has made no map");
+            return write_names(out, session.registry(), some, none);
         }
     }
     Ok(())
@@ -145,7 +152,8 @@ fn write_context<W: Write>(out: &mut W, session: &Session, words: &[&[u8]]) -> i
     )
 }
 
-/// The maps that a `load` of these words names, in their order; `None` where two names are one.
+/// The maps that a `load` of these words names, in their order; `None` where two names are one, a name is no map's, or memory
+/// ran out.
 fn maps_of(alloc: Global, session: &Session, words: &[&[u8]]) -> Option<Registry> {
     let mut maps = Registry::new(alloc);
     for name in words.iter().skip(3) {
@@ -207,7 +215,7 @@ fn write_cause<W: Write>(
         LineRefusal::Event(EventRefusal::BadLength) => write_misfit(out, session, words),
         LineRefusal::Event(EventRefusal::BadContext) => write_context(out, session, words),
         LineRefusal::Map(MapFault::BadShape) => write_shape(out, words),
-        LineRefusal::Sealed => writeln!(
+        LineRefusal::TooLate => writeln!(
             out,
             "  `map` and `load` stand above the first line that is another command"
         ),
@@ -226,7 +234,7 @@ fn meaning_of_refusal(refusal: &LineRefusal) -> Option<Meaning> {
         LineRefusal::Map(MapFault::BadShape) => ("BadShape", "no map may have that shape"),
         LineRefusal::Map(MapFault::TooMany) => ("TooMany", "a seventeenth map"),
         LineRefusal::TooManyPrograms => ("TooManyPrograms", "a sixty-fifth program"),
-        LineRefusal::Sealed => (
+        LineRefusal::TooLate => (
             "TooLate",
             "a script: a map or a program after the world was made",
         ),

@@ -153,10 +153,17 @@ fn write_why<W: Write>(alloc: Global, out: &mut W, line: &[u8]) -> io::Result<()
     }
     write!(out, "  no command begins with ")?;
     write_quoted(out, word, SHOWN)?;
-    writeln!(
-        out,
-        ": map, load, put, get, del, start, step, drop, advance, reap, stat, dump"
-    )
+    write_commands(out)
+}
+
+/// Writes the names of all commands.
+fn write_commands<W: Write>(out: &mut W) -> io::Result<()> {
+    let mut before = ": ";
+    for (name, _) in FORMS.iter() {
+        write!(out, "{before}{name}")?;
+        before = ", ";
+    }
+    writeln!(out)
 }
 
 /// Writes what a text looks like that is no script.

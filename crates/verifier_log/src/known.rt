@@ -39,13 +39,8 @@ fn write_numbers<W: Write>(out: &mut W, numbers: &Scalar) -> io::Result<()> {
 
 /// Writes the offset that a number stands for.
 fn write_offset<W: Write>(out: &mut W, number: u64) -> io::Result<()> {
-    if number < ORIGIN {
-        let before = ORIGIN - number;
-        write!(out, "-{before}")
-    } else {
-        let behind = number - ORIGIN;
-        write!(out, "{behind}")
-    }
+    let offset = number.wrapping_sub(ORIGIN).cast_signed();
+    write!(out, "{offset}")
 }
 
 /// Writes at which offsets a reference may be.
@@ -64,11 +59,7 @@ fn write_offsets<W: Write>(out: &mut W, offsets: &Scalar) -> io::Result<()> {
 /// Writes where in the frame a reference is, from r10 on.
 fn write_place<W: Write>(out: &mut W, offset: i32) -> io::Result<()> {
     let place = i64::from(offset) - FRAME_BYTES as i64;
-    if place < 0 {
-        write!(out, "the frame, at r10{place}")
-    } else {
-        write!(out, "the frame, at r10+{place}")
-    }
+    write!(out, "the frame, at r10{place:+}")
 }
 
 /// The name of so many bytes.

@@ -34,8 +34,9 @@ pub(crate) struct Next {
     pub taken: Option<Numbered>,
 }
 
-/// Identities from here on are none.
-const LAST_IDENTITY: u32 = 1 << 31;
+/// While fewer identities than this are taken, enough are left for a step and a join. No program of `MAX_SLOTS` slots takes as
+/// many.
+const MOST_TAKEN: u32 = 1 << 31;
 
 impl Numbered {
     /// What is known at a program's entry.
@@ -58,7 +59,7 @@ impl Numbered {
         ensures taken { IsTrue result → self.now.top ≤ ids.now.next }
         ensures room { IsTrue result → ids.now.next + MAX_PAIRS < 2 ^ 32 }
     {
-        self.top <= ids.next && ids.next < LAST_IDENTITY
+        self.top <= ids.next && ids.next < MOST_TAKEN
     }
 
     /// The same with a number that is not less.
@@ -74,7 +75,7 @@ impl Numbered {
     }
 }
 
-/// What is known where control comes from either state; none where other numbers of locks are open.
+/// What is known where control comes from either state; none where other numbers of locks are open, or too few identities are left.
 pub(crate) fn joined(
     here: Numbered,
     there: Numbered,
@@ -94,7 +95,7 @@ pub(crate) fn joined(
     })
 }
 
-/// What an instruction makes of what is known before it; none where it is refused.
+/// What an instruction makes of what is known before it; none where it is refused, or too few identities are left.
 ///
 /// The error is that there is no memory left.
 pub(crate) fn next_of(

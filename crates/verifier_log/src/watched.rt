@@ -1,5 +1,5 @@
 //! What becomes of one register, or of one byte of the frame, from instruction to instruction.
-ghost use Rattle.std.specs.Prelude.{◌<◌, ◌+◌, ◌*◌};
+ghost use Rattle.std.specs.Prelude.{◌<◌, ◌*◌};
 
 use crate::numbered::next_of;
 use crate::states::{States, Waiting};

@@ -1,7 +1,7 @@
 use Rattle.bpf_model.proofs.Prelude.{◌≡◌, drop, find}
 use Rattle.std.specs.Str.{bytes_eq}
 use Rattle.disasm.specs.Text.{mnemonic_text}
-use Rattle.asm.proofs.names.first_named.Given as goal
+use Rattle.disasm.proofs.names.first_named.Given as goal
 
 abbrev pub invariant-loop-mnemonic : goal.invariant-loop-mnemonic
 invariant-loop-mnemonic l = find (λ m. bytes_eq (mnemonic_text m) l.name) (drop l.mnemonic-index l.mnemonics) ≡ find

@@ -1,5 +1,5 @@
-use Rattle.asm.proofs.NameLaws.{named_found}
-use Rattle.asm.proofs.names.mnemonic_named.Goals as goal
+use Rattle.disasm.proofs.NameLaws.{named_found}
+use Rattle.disasm.proofs.names.mnemonic_named.Goals as goal
 
 pub returns-clause-found : goal.returns-clause-found
 returns-clause-found c = named_found _ c.args.name.now c.first_named.result c.first_named.ensures

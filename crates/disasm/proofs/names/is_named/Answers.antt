@@ -1,7 +1,7 @@
 use Rattle.bpf_model.proofs.Prelude.{rules, ap, sym, ◌∙◌, ◌++◌}
 use Rattle.disasm.specs.Text.{stem_of, suffix_of}
-use Rattle.asm.proofs.NameLaws.{name_goes_on, name_differs}
-use Rattle.asm.proofs.names.is_named.Goals as goal
+use Rattle.disasm.proofs.NameLaws.{name_goes_on, name_differs}
+use Rattle.disasm.proofs.names.is_named.Goals as goal
 
 pub returns-in-Some : goal.returns-in-Some
 returns-in-Some c =

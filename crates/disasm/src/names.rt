@@ -5,7 +5,7 @@ ghost use Rattle.std.specs.Str.{bytes_eq};
 ghost use Rattle.disasm.specs.Text.{mnemonic_text};
 ghost use Rattle.disasm.specs.declared.mnemonic.Mnemonic.{Mnemonic as MnemonicOf};
 
-use disasm::{MNEMONICS, Mnemonic};
+use crate::mnemonic::{MNEMONICS, Mnemonic};
 
 /// What stands after the front.
 fn rest_after<'a>(text: &'a str, front: &str) -> Option<&'a str>
