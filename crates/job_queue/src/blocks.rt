@@ -1,5 +1,5 @@
 //! Jobs that are served block by block, so that what a thread pays for its next number is paid by many jobs.
-ghost use Rattle.std.specs.Prelude.{◌≡◌, ◌<◌, ◌≤◌, [], length, IfOk, IfErr, IfSome, OnOk, IsSome, All, vec_len};
+ghost use Rattle.std.specs.Prelude.{◌≡◌, ◌<◌, ◌≤◌, length, IfOk, IfErr, OnOk, IsSome, All, vec_len};
 ghost use Rattle.std.specs.List.{flat_map};
 ghost use Rattle.job_queue.specs.Blocks.{jobs_of, results_of, AreRightIn, ServesIn};
 ghost use Rattle.job_queue.specs.Serving.{most_threads};

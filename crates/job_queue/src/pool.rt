@@ -1,5 +1,5 @@
 //! All jobs, served by as many threads as the caller says.
-ghost use Rattle.std.specs.Prelude.{◌≡◌, true, [], ℕ, ◌⊎◌, ◌+◌, ◌<◌, ◌≤◌, ◌++◌, length, map, take, drop, slice_get, Some, Err, All, IsOk, IfErr, IfOk, OnOk, OnErr, vec_len, vec_capacity, IsSome, IsTrue};
+ghost use Rattle.std.specs.Prelude.{◌≡◌, [], ◌⊎◌, ◌+◌, ◌<◌, ◌≤◌, ◌++◌, length, map, take, drop, slice_get, Some, Err, All, IsOk, IfErr, IfOk, OnOk, OnErr, vec_len, vec_capacity, IsSome, IsTrue};
 ghost use Rattle.std.specs.List.{AllZip};
 ghost use Rattle.crossbeam_queue.specs.Passes.{view, IsPassOf};
 ghost use Rattle.job_queue.specs.Blocks.{InBlocks, ServesBlock};

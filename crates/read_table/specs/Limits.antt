@@ -1,4 +1,4 @@
--- How large a table may be, and how far apart its section words lie.
+-- How large a table may be.
 use Rattle.std.specs.Prelude.{ℕ}
 
 -- the most slots of a table
@@ -16,7 +16,3 @@ word_bytes = 8
 -- the longest key and the longest value, in bytes
 abbrev pub most_table_bytes : ℕ
 most_table_bytes = 64
-
--- how many words lie from the section word of a reader to that of the next
-abbrev pub section_stride : ℕ
-section_stride = 520

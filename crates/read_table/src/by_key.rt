@@ -1,5 +1,5 @@
 //! How the writer finds a slot by its key.
-ghost use Rattle.std.specs.Prelude.{◌≡◌, ℕ, ◌+◌, ◌*◌, ◌<◌, ◌≤◌, List, ◌∷◌, ◌++◌, All, Decides, IfSome, IsNone, length};
+ghost use Rattle.std.specs.Prelude.{◌≡◌, ◌+◌, ◌*◌, ◌<◌, List, ◌++◌, All, Decides, IfSome, IsNone, length};
 ghost use Rattle.std.specs.List.{Contains};
 ghost use Rattle.read_table.specs.declared.view.Move.{Move};
 ghost use Rattle.read_table.specs.Found.{IsLinkedUnder};

@@ -22,9 +22,9 @@ mod writing;
 
 pub use limits::{MAX_READERS, MAX_TABLE_BYTES, MAX_TABLE_SLOTS, WORD_BYTES};
 pub use rule::{
-    Changes, Closes, Deals, Law, Learns, Loads, Opens, SECTION_STRIDE, Scans, Stores,
-    held_slots_stay, linked_keys_are_found, linked_slots_keep_their_keys,
-    loads_find_what_was_stored, spare_slots_are_unlearnt,
+    Changes, Closes, Deals, Law, Learns, Loads, Opens, Scans, Stores, held_slots_stay,
+    linked_keys_are_found, linked_slots_keep_their_keys, loads_find_what_was_stored,
+    spare_slots_are_unlearnt,
 };
 pub use run_laws::{
     moves_below_length, shared_lookups_find_keys, shared_run_asks, shared_run_exits,

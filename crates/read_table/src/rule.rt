@@ -10,11 +10,6 @@ ghost use Rattle.read_table.specs.Found.{IsLinkedUnder, KeepsHeader, StaysLinked
 use crate::view::{TableShape, View};
 use atomic_table::{Play, Split, TableRule};
 
-/// How many words lie from the section word of a reader to that of the next: a page of 4,096 bytes and a line of 64. The
-/// words between them are never used. A processor reads ahead within a page, and what it reads ahead it takes from the
-/// core that writes it; with a line more than a page, two section words have no place of a cache in common.
-pub const SECTION_STRIDE: usize = 520;
-
 /// In every lawful history a slot that a reader knows has the generation with which it was learnt.
 pub fn held_slots_stay()
     ensures { (k : TableShape) (es : List (ℕ × Move)) → IsLawful k es → (who slot h : ℕ) →

@@ -1,7 +1,7 @@
 //! Makes a table, its readers' seats and its writer.
 ghost use Rattle.std.specs.Prelude.{◌≡◌, ◌<◌, ◌≤◌, ◌/◌, [], length, IfOk, OnOk, All};
 ghost use Rattle.std.specs.List.{range_with_len};
-ghost use Rattle.read_table.specs.Law.{writer_after, count_of};
+ghost use Rattle.read_table.specs.Law.{writer_after};
 ghost use Rattle.read_table.specs.Limits.{most_table_slots, most_readers, word_bytes};
 ghost use Rattle.read_table.specs.Held.{AreInOrder, IsTableLength, IsReady, IsNew, IsSized};
 
@@ -9,10 +9,10 @@ use crate::limits::WORD_BYTES;
 use crate::seats::Seats;
 use crate::table::{ReadSeat, ReadTable};
 use crate::writer::Writer;
-use crate::{SECTION_STRIDE, TableShape, View};
+use crate::{TableShape, View};
 use atomic_table::Seat;
 use std::alloc::{AllocError, Global};
-use table_words::zeros;
+use table_words::{SECTION_STRIDE, zeros};
 
 /// The seats of all readers, in order.
 fn deal_all(
@@ -39,9 +39,9 @@ fn deal_all(
 }
 
 impl ReadTable {
-    /// A table of so many slots, for keys and values of so many bytes, with a seat for each of its readers, and its
-    /// writer. Nothing is linked. All memory is taken here: an `Err` says that there was too little, and no later call
-    /// takes any.
+    /// A table of 1 to `MAX_TABLE_SLOTS` slots, with seats for 1 to `MAX_READERS` readers, and its writer. Keys and values
+    /// have 8 to `MAX_TABLE_BYTES` bytes each, in whole words. Nothing is linked. All memory is taken here: an `Err` says
+    /// that there was too little, and no later call takes any.
     pub fn new(
         alloc: Global,
         slots: usize,

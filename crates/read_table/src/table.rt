@@ -1,6 +1,6 @@
 //! The table, and a reader's seat at it.
 ghost use Rattle.atomic_table.specs.Table.{State};
-ghost use Rattle.std.specs.Prelude.{◌≡◌, ℕ, ◌+◌, ◌-◌, ◌*◌, ◌<◌, ◌≤◌, ◌%◌, ◌↔◌, [], ◌∷◌, length, slice_index, IsTrue, IfOk, true, false};
+ghost use Rattle.std.specs.Prelude.{◌≡◌, ℕ, ◌+◌, ◌-◌, ◌*◌, ◌<◌, ◌≤◌, ◌%◌, ◌↔◌, [], ◌∷◌, length, slice_index, IsTrue, IfOk, true};
 ghost use Rattle.read_table.specs.declared.view.Move.TheVariants.{Open, Close, Learn, Load, Store, Header, Scan};
 ghost use Rattle.read_table.specs.History.{inside, IsLearnt, header_in, word_at_place, MayLink};
 ghost use Rattle.read_table.specs.History.{IsReader};
@@ -9,13 +9,11 @@ ghost use Rattle.read_table.specs.declared.view.View.{View};
 ghost use Rattle.read_table.specs.Held.{IsSized, IsReady, IsNew, Does, Went, IsUnchanged};
 ghost use Rattle.read_table.specs.Slots.{IsFree};
 
-use crate::{
-    Changes, Closes, Deals, Law, Learns, Loads, Opens, SECTION_STRIDE, Scans, Stores, TableShape,
-    View,
-};
+use crate::{Changes, Closes, Deals, Law, Learns, Loads, Opens, Scans, Stores, TableShape, View};
 use atomic_table::{Seat, Shared, Table, TableRule};
 use std::alloc::{AllocError, Global};
 use std::marker::Model;
+use table_words::SECTION_STRIDE;
 
 /// Words that readers and one writer share with no lock. Contracts see which table it is, and how many of each it has.
 #[derive(Drop)]
@@ -54,7 +52,7 @@ pub struct ReadSeat {
 
 impl Model for ReadSeat {
     ghost use Rattle.std.specs.Prelude.{◌≡◌, ◌+◌, ◌*◌, []};
-    ghost use Rattle.read_table.specs.Limits.{section_stride};
+    ghost use Rattle.table_words.specs.Limits.{section_stride};
     ghost use Rattle.read_table.specs.History.{IsReader};
     ghost use Rattle.read_table.specs.Held.{Holder};
 
@@ -90,9 +88,9 @@ impl ReadSeat {
 }
 
 impl ReadTable {
-    /// The words that all share, under their rule, which holds between any two steps, of whichever threads: there is one
-    /// lawful history of all that was done, the words are what it leaves, and the view of each share of this table
-    /// (`ReadSeat::share`, `Writer::share`) has its holder's part of it.
+    /// The words that all share, under their rule. It holds between any two steps, of whichever threads. One lawful history
+    /// of all that was done leaves the words. The view of each share of this table (`ReadSeat::share`, `Writer::share`) has
+    /// its holder's part of it.
     pub fn ruled(&self) -> &Shared<u8, View, TableShape, Law>
         ensures table { result.now.table_id ≡ self.now.id }
         ensures rule { (s : State ℕ View) →

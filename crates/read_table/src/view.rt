@@ -1,8 +1,8 @@
 //! What a holder of a table knows. No value of a `View` is made: contracts alone see it.
 use std::collections::LinkedList;
 
-/// How many of each a table has. A slot has a header, the words of a key, and the words of a value behind them; a word
-/// is eight bytes.
+/// How many readers and slots a table has, and how many words a key and a value have. A slot has a header, the words of a
+/// key, and behind them those of a value. A word has eight bytes.
 #[derive(Clone, Copy, Debug, PartialEq, Eq)]
 pub struct TableShape {
     pub readers: usize,

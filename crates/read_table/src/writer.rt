@@ -1,5 +1,5 @@
 //! The writer of a table.
-ghost use Rattle.std.specs.Prelude.{◌≡◌, ℕ, List, ◌+◌, ◌*◌, ◌^◌, ◌%◌, ◌<◌, ◌≤◌, ◌↔◌, ◌⊎◌, [], ◌∷◌, ◌++◌, length, vec_capacity, true, false, All, IsNone, IfNone, IfSome, IfOk};
+ghost use Rattle.std.specs.Prelude.{◌≡◌, ℕ, List, ◌+◌, ◌*◌, ◌^◌, ◌<◌, ◌≤◌, ◌↔◌, ◌⊎◌, [], ◌∷◌, ◌++◌, length, vec_capacity, true, false, IsNone, IfNone, IfSome, IfOk};
 ghost use Rattle.std.specs.List.{range_with_len, Contains};
 ghost use Rattle.read_table.specs.History.{header_in, Cleared, MayLink};
 ghost use Rattle.read_table.specs.Held.{IsKnown, IsSized};

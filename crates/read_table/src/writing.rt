@@ -1,5 +1,5 @@
 //! What the calls of the writer are made of.
-ghost use Rattle.std.specs.Prelude.{◌≡◌, ◌≢◌, ℕ, ◌+◌, ◌*◌, ◌<◌, ◌≤◌, ◌%◌, ◌^◌, List, ◌∷◌, ◌++◌, All, length, slice_index, slice_set, vec_len, vec_capacity, MatchBool};
+ghost use Rattle.std.specs.Prelude.{◌≡◌, ◌+◌, ◌*◌, ◌<◌, ◌≤◌, ◌%◌, ◌^◌, List, ◌∷◌, ◌++◌, All, length, slice_index, slice_set, vec_capacity, MatchBool};
 ghost use Rattle.std.specs.List.{Contains};
 ghost use Rattle.read_table.specs.declared.view.Move.{Move};
 ghost use Rattle.read_table.specs.declared.view.Move.TheVariants.{Header};

@@ -1,5 +1,5 @@
 //! A shared world of one program, which is bound to all maps.
-ghost use Rattle.std.specs.Prelude.{◌≡◌, ◌<◌, ◌≤◌, ◌∷◌, [], length, map, slice_get, IfOk, Some};
+ghost use Rattle.std.specs.Prelude.{◌≡◌, ◌<◌, ◌≤◌, ◌∷◌, [], length, map, slice_get, All, IfOk, Some};
 ghost use Rattle.bpf_model.specs.View.{AreNewMaps, shapes_of, shapes_of_maps};
 ghost use Rattle.shared_books.specs.Replay.{HasNoRuns};
 ghost use Rattle.shared_books.specs.Books.{AreNumbered, most_workers};
@@ -26,6 +26,8 @@ fn world_of(alloc: Global, program: ProgramWithMaps) -> Result<World, AllocError
     requires shapes { program.verified.shapes ≡ shapes_of_maps program.registry.maps }
     ensures codes { IfOk result (λ w.
         map (λ l. l.code) w.programs ≡ program.verified.program ∷ []) }
+    ensures contexts { IfOk result (λ w.
+        map (λ l. l.context_len) w.programs ≡ program.verified.ctx_len ∷ []) }
     ensures bound { IfOk result (λ w. map (λ l. map (slice_get (shapes_of w)) l.maps) w.programs
         ≡ map Some program.verified.shapes ∷ []) }
     ensures quiet { IfOk result HasNoRuns }
@@ -57,9 +59,12 @@ impl<L: Ledger> Shared<L> {
         requires name { blank.name ≡ L.name }
         requires parts { (blank.parts ≡ L.parts) × (blank.parts ≡ workers) }
         ensures count { IfOk result (λ t. length t.1 ≡ workers) }
+        ensures made { IfOk result (λ t. All (λ w. w.made ≡ 0) t.1) }
         ensures numbers { IfOk result (λ t. AreNumbered t.1) }
         ensures codes { IfOk result (λ t.
             map (λ p. p.program) t.0 ≡ program.verified.program ∷ []) }
+        ensures contexts { IfOk result (λ t.
+            map (λ p. p.ctx_len) t.0 ≡ program.verified.ctx_len ∷ []) }
         ensures shapes { IfOk result (λ t.
             map (λ p. p.shapes) t.0 ≡ program.verified.shapes ∷ []) }
     {

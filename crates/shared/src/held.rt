@@ -1,10 +1,8 @@
 //! A shared world whose lock is held.
-ghost use Rattle.std.specs.Prelude.{◌≡◌, ◌+◌, ◌<◌, ◌≤◌, IfSome, Ok, Err, option_copied, slice_get};
+ghost use Rattle.std.specs.Prelude.{◌≡◌, ◌<◌, option_copied, slice_get};
 ghost use Rattle.bpf_model.specs.declared.event.Event.{Event};
-ghost use Rattle.bpf_model.specs.declared.event.Answer.{Answer};
-ghost use Rattle.shared_books.specs.Noted.{IsNoted};
-ghost use Rattle.shared_books.specs.Receipts.{HasExitedOnce, IsMachineAnswer, IsOwnExit, IsPossibleExit};
-ghost use Rattle.shared_books.specs.Stretches.{HasMade};
+ghost use Rattle.shared_books.specs.Noted.{IsNoted, TellsExit};
+ghost use Rattle.shared_books.specs.Stretches.{HasWalked};
 
 use crate::state::{ExitNote, Receipt, State, Stretch};
 use bpf_model::{CtxBytes, Event, ProgId, RunId};
@@ -73,14 +71,10 @@ impl<'a, L: Ledger> Held<'a, L> {
         most: usize,
     ) -> (Stretch<L>, Result<Stop, SharedFault>)
         ensures programs { self.new ≡ self.old }
-        ensures made { HasMade worker.old result.0.moved worker.new }
         ensures worker { result.0.worker ≡ worker.old.number }
         ensures run { result.0.run ≡ run }
         ensures since { result.0.since ≡ worker.old.made }
-        ensures answered { 0 < result.0.moved → IsMachineAnswer (Event.Step run) Answer.Moved }
-        ensures most { result.0.moved ≤ most }
-        ensures exhausted { result.1 ≡ Ok Stop.Enough → result.0.moved ≡ most }
-        ensures memory { result.1 ≡ Err SharedFault.Memory → result.0.moved ≡ 0 }
+        ensures walked { HasWalked worker.old run most result.0.moved result.1 worker.new }
     {
         self.state.run_noted(rt, worker, run, most)
     }
@@ -95,19 +89,7 @@ impl<'a, L: Ledger> Held<'a, L> {
         prog: ProgId,
         ctx: &CtxBytes,
     ) -> ExitNote<L>
-        ensures worker { result.worker ≡ worker.now.number }
-        ensures count { result.made ≡ worker.now.made }
-        ensures run { result.run ≡ run }
-        ensures prog { result.prog ≡ prog }
-        ensures context { result.context ≡ ctx.now.items }
-        ensures exit { IfSome result.exit (λ n.
-            HasExitedOnce self.now run prog ctx.now.items n) }
-
-        // The value is one of the program's definition, and without map references the only one.
-        ensures may { IfSome result.exit (λ n.
-            IsPossibleExit (slice_get self.now prog) ctx.now.items n) }
-        ensures alone { IfSome result.exit (λ n.
-            IsOwnExit (slice_get self.now prog) ctx.now.items n) }
+        ensures noted { TellsExit self.now worker.now run prog ctx.now.items result }
     {
         let program = self.program(prog);
         self.state.exit_noted(worker, run, prog, program, ctx)

@@ -3,9 +3,9 @@ ghost use Rattle.std.specs.Prelude.{◌≡◌, ◌+◌, ◌<◌, ◌≤◌, ◌+
 ghost use Rattle.bpf_model.specs.declared.limits.TheConstants.{MAX_JOURNAL};
 ghost use Rattle.bpf_model.specs.View.{shapes_of};
 ghost use Rattle.shared_books.specs.Books.{AreNumbered, most_workers};
-ghost use Rattle.shared_books.specs.Noted.{IsNoted};
+ghost use Rattle.shared_books.specs.Noted.{IsNoted, TellsExit};
 ghost use Rattle.shared_books.specs.Receipts.{HasExitedOnce, IsMachineAnswer, IsOwnExit, IsPossibleExit};
-ghost use Rattle.shared_books.specs.Stretches.{HasMade};
+ghost use Rattle.shared_books.specs.Stretches.{HasWalked};
 ghost use Rattle.bpf_model.specs.declared.event.Event.{Event};
 ghost use Rattle.bpf_model.specs.declared.event.Answer.{Answer};
 ghost use Rattle.shared_books.specs.Tally.{origin_of, shown_totals};
@@ -143,11 +143,7 @@ impl<L: Ledger> Shared<L> {
         run: RunId,
         most: usize,
     ) -> Walk<Result<Stop, SharedFault>>
-        ensures made { HasMade worker.old result.moved worker.new }
-        ensures answered { 0 < result.moved → IsMachineAnswer (Event.Step run) Answer.Moved }
-        ensures most { result.moved ≤ most }
-        ensures exhausted { result.end ≡ Ok Stop.Enough → result.moved ≡ most }
-        ensures memory { result.end ≡ Err SharedFault.Memory → result.moved ≡ 0 }
+        ensures walked { HasWalked worker.old run most result.moved result.end worker.new }
     {
         self.state.lock(rt).run_for(rt, worker, run, most)
     }
@@ -214,19 +210,7 @@ impl<L: Ledger> Shared<L> {
         prog: ProgId,
         ctx: &CtxBytes,
     ) -> ExitNote<L>
-        ensures worker { result.worker ≡ worker.now.number }
-        ensures count { result.made ≡ worker.now.made }
-        ensures run { result.run ≡ run }
-        ensures prog { result.prog ≡ prog }
-        ensures context { result.context ≡ ctx.now.items }
-        ensures exit { IfSome result.exit (λ n.
-            HasExitedOnce self.now run prog ctx.now.items n) }
-
-        // The value is one of the program's definition, and without map references the only one.
-        ensures may { IfSome result.exit (λ n.
-            IsPossibleExit (slice_get self.now prog) ctx.now.items n) }
-        ensures alone { IfSome result.exit (λ n.
-            IsOwnExit (slice_get self.now prog) ctx.now.items n) }
+        ensures noted { TellsExit self.now worker.now run prog ctx.now.items result }
     {
         self.hold(rt).exit_noted(worker, run, prog, ctx)
     }
@@ -263,7 +247,8 @@ impl<L: Ledger> Shared<L> {
     /// Adds a program to the world, as `State::load` says, and keeps it behind the others. No worker can act meanwhile, since the
     /// sharing is borrowed.
     ///
-    /// Errors, and then nothing has changed: `NotQuiet` where a run slot is occupied; else `World`.
+    /// Errors, and then nothing has changed: `World` with `Memory` where there is none to keep the program; else `NotQuiet`
+    /// where a run slot is occupied; else `World` as `State::load` says.
     pub fn load<R: Wait>(
         &mut self,
         rt: &R,

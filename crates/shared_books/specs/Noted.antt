@@ -1,6 +1,6 @@
 -- What a call does to the books and to the worker who calls, and what it hands out.
 use Rattle.std.specs.Prelude.{◌≡◌, ◌+◌, ◌↔◌, ℕ, List, Option, Result, Err, IfOk, IfSome, IfNone, OnErr}
-use Rattle.std.specs.Prelude.{OnOk}
+use Rattle.std.specs.Prelude.{OnOk, slice_get}
 use Rattle.bpf_model.specs.declared.event.Event.{Event}
 use Rattle.bpf_model.specs.declared.event.Answer.{Answer}
 use Rattle.bpf_model.specs.View.{WorldView}
@@ -8,6 +8,7 @@ use Rattle.verifier.specs.Checked.{Checked}
 use Rattle.world_laws.specs.Invariant.{IsWorld}
 use Rattle.shared_books.specs.Books.{BooksView, WorkerView, Enters, IsJournalFull}
 use Rattle.shared_books.specs.Receipts.{NoteView, ReceiptView, IsExitOf, IsMachineAnswer, reply_of}
+use Rattle.shared_books.specs.Receipts.{HasExitedOnce, IsPossibleExit, IsOwnExit}
 use Rattle.shared_books.specs.declared.fault.SharedFault.{SharedFault}
 use Rattle.shared_books.specs.declared.fault.SharedFault.TheVariants.{JournalFull}
 
@@ -52,3 +53,17 @@ pub record IsExitNote (w : WorldView) (caller : WorkerView) (run prog : ℕ)
   pub some : IfSome note.exit (λ n. IsExitOf w run program context n)
   pub world : IsWorld w
   pub none : IfNone note.exit ((n : ℕ) → IsExitOf w run program context n → ⊥)
+
+-- The note says who asked for which run, program and context, and how many entries it has made. A value is that of a run which
+-- has ended in some world, of the program of that number among these; it is one of the program's definition, and without map
+-- references the only one.
+pub record TellsExit (programs : List Checked) (caller : WorkerView) (run prog : ℕ) (context : List ℕ)
+    (note : NoteView) : Type 0 where
+  pub worker : note.worker ≡ caller.number
+  pub count : note.made ≡ caller.made
+  pub run_is : note.run ≡ run
+  pub prog_is : note.prog ≡ prog
+  pub context_is : note.context ≡ context
+  pub exit : IfSome note.exit (λ n. HasExitedOnce programs run prog context n)
+  pub may : IfSome note.exit (λ n. IsPossibleExit (slice_get programs prog) context n)
+  pub alone : IfSome note.exit (λ n. IsOwnExit (slice_get programs prog) context n)

@@ -233,9 +233,9 @@ impl<L: Ledger> Books<L> {
         Ok(program)
     }
 
-    /// A law: the journal replays from the base to the world; the ledger counts its entries and those before the
-    /// base; the totals are the world's, since its origin, the steps those of all entries; and there are no more
-    /// entries than there may be, which are at most `MAX_JOURNAL`.
+    /// A law: the journal replays from the base to the world. The ledger counts its entries and those before the base. The
+    /// totals are the world's since its origin, and the steps those of all entries. There are no more entries than there
+    /// may be, which are at most `MAX_JOURNAL`.
     pub fn are_balanced(&self)
         ensures replays { Replays self.now.base self.now.world self.now.journal }
         ensures total { self.now.before + length self.now.journal ≡ self.now.total }

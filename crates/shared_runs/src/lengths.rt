@@ -1,5 +1,5 @@
 //! For which lengths of keys and values a program was verified.
-ghost use Rattle.std.specs.Prelude.{◌≡◌, ◌^◌, ◌≤◌, Decides};
+ghost use Rattle.std.specs.Prelude.{◌^◌, ◌≤◌, Decides};
 ghost use Rattle.shared_runs.specs.Words.{HaveLengths};
 
 use bpf_model::MapKind;

@@ -1,6 +1,5 @@
 //! Which programs a table of words can serve.
-ghost use Rattle.std.specs.Prelude.{◌≡◌, ◌≢◌, ◌≤◌, ◌<◌, ◌⊎◌, Decides, IsTrue, length, slice_get, Some};
-ghost use Rattle.bpf_model.specs.Access.{byte_count};
+ghost use Rattle.std.specs.Prelude.{◌≡◌, ◌<◌, ◌⊎◌, Decides, length, Some};
 ghost use Rattle.shared_runs.specs.Words.{
   ChangesMap,
   IsElementRegion,
@@ -86,8 +85,8 @@ fn is_beyond_words(verified: &Verified, index: usize, insn: &Insn, among: Access
     changes_map(insn)
 }
 
-/// Whether the program accesses an element by another width than 8 bytes, or calls a helper that changes a map. A table of
-/// words serves no such program.
+/// Whether the program accesses an element by another width than 8 bytes, or calls a helper that changes a map. A table that
+/// serves whole words alone, as `ReadTable`, serves no such program.
 pub fn uses_sub_words(verified: &Verified) -> bool
     ensures { Decides result (UsesSubWords verified.now) }
 {

@@ -38,15 +38,15 @@ pub enum StopCause {
     /// The run slot has no ended run of the job's program and context. A job keeps the lock from its start to its
     /// drop, so that nobody drops its run; no clause says so.
     OtherRun,
-    /// The job's program accesses an element by another width than 8 bytes, or changes a map: a table of words
-    /// serves no such program.
+    /// The job's program accesses an element by a width that the table does not serve, or changes a map. A `ReadTable`
+    /// serves 8 bytes alone, a `MapTable` shorter loads, too.
     SubWord,
 }
 
 /// What came of one job.
 #[derive(Clone, Copy, Debug, PartialEq, Eq)]
 pub enum Outcome {
-    /// The run has exited with this value, and was dropped.
+    /// The run has exited with this value. In a world it was dropped, too.
     Exit(u64),
     /// No exit value. The job's run, where it has one, stays in the world.
     Stopped {

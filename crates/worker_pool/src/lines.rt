@@ -1,11 +1,9 @@
 //! Jobs' outcomes as lines of text.
-ghost use Rattle.std.specs.Prelude.{◌≡◌, ◌+◌, ◌<◌, ◌^◌, length, OnOk, IfErr};
+ghost use Rattle.std.specs.Prelude.{◌≡◌, ◌+◌, ◌<◌, ◌^◌, [], length, OnOk};
 ghost use Rattle.std.specs.Io.KnownBytes.{Appends};
-ghost use Rattle.job_queue.specs.declared.fault.PoolFault.TheVariants.{Memory};
 ghost use Rattle.worker_pool.specs.Lines.{job_line, job_lines};
 
 use crate::job::Outcome;
-use job_queue::PoolFault;
 use std::io;
 use std::io::Write;
 
@@ -23,17 +21,14 @@ fn write_job<W: Write>(out: &mut W, number: usize, outcome: &Outcome) -> io::Res
     }
 }
 
-/// Makes the text the lines of jobs with these outcomes, numbered from `first` on. The fault is that there is no memory left.
-pub fn make_lines(text: &mut Vec<u8>, first: usize, outcomes: &[Outcome]) -> Result<(), PoolFault>
-    requires { first + length outcomes.now < 2 ^ 64 }
+/// Writes the lines of jobs with these outcomes, numbered from `first` on, into an empty text. It fails where memory runs out.
+pub fn make_lines(text: &mut Vec<u8>, first: usize, outcomes: &[Outcome]) -> io::Result<()>
+    requires number { first + length outcomes.now < 2 ^ 64 }
+    requires empty { text.old.items ≡ [] }
     ensures lines { OnOk result (text.new.items ≡ job_lines first outcomes.now) }
-    ensures fault { IfErr result (λ f. f ≡ Memory) }
 {
-    text.clear();
     for (index, outcome) in outcomes.iter().enumerate() {
-        let Ok(()) = write_job(text, first + index, outcome) else {
-            return Err(PoolFault::Memory);
-        };
+        write_job(text, first + index, outcome)?;
     }
     Ok(())
 }

@@ -88,9 +88,9 @@ impl<T: RunsPrograms> Serve for Reading<'_, T> {
 ///
 /// Errors: the first of these that holds.
 /// - `TooManyJobs`: there are more than `MAX_JOBS`. Nothing was done.
-/// - `Memory`: there is none for the results.
+/// - `Memory`: there is none for the queue or the results. Some jobs may have been served, and what they stored stays.
 ///
-/// That it returns is not claimed: its threads wait for one another's numbers.
+/// That it returns is not claimed: its threads take numbers from one queue, and may wait there for one another.
 pub fn run_table_jobs<T: RunsPrograms + Sync, R: Threads + Wait + Sync>(
     rt: &R,
     alloc: Global,

@@ -224,8 +224,8 @@ pub fn run_program<R: Threads + Wait + Sync, W: Write>(
     ensures refused { (workers ≡ 0) ⊎ (most_workers < workers) ⊎ (most_jobs < count) →
         out.new ≡ out.old }
     ensures fault { IfErr result (IsRunFaultOf workers count) }
-    // A job that has exited has exited with a value of the program's definition on its context; of one that was stopped
-    // nothing is known.
+    // A job that has exited has exited with a value of the program's definition on its context. Of one that was stopped it
+    // is only known that the cause is not 80.
     ensures written { OnOk result (WritesJobs program.verified.program program.verified.shapes
         (contexts_of contexts.now) count (W.contents out.old) (W.contents out.new)) }
     ensures part { IfErr result (WritesPart program.verified.program program.verified.shapes

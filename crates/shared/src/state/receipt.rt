@@ -111,11 +111,4 @@ impl<L: Ledger> Receipt<L> {
     {
         &self.reply
     }
-
-    /// The answer, or why the event was not applied, without the receipt.
-    pub fn into_reply(self) -> Result<Answer, SharedFault>
-        ensures { result ≡ self.reply }
-    {
-        self.reply
-    }
 }

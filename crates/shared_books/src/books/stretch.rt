@@ -1,5 +1,5 @@
 //! Many steps of one run at once.
-ghost use Rattle.std.specs.Prelude.{◌≡◌, ◌≢◌, ◌⊎◌, ◌↔◌, ◌+◌, ◌^◌, ◌<◌, ◌≤◌, ◌++◌, length, replicate, true, Ok, Err, IfOk, IfErr, OnErr};
+ghost use Rattle.std.specs.Prelude.{◌≡◌, ◌≢◌, ◌⊎◌, ◌+◌, ◌^◌, ◌<◌, ◌≤◌, ◌++◌, length, replicate, true, Ok, Err, IfOk, IfErr, OnErr};
 ghost use Rattle.bpf_model.specs.declared.event.Event.{Event};
 ghost use Rattle.bpf_model.specs.declared.event.Answer.{Answer};
 ghost use Rattle.journal.specs.Rows.{entry_from};

@@ -3,11 +3,9 @@ ghost use Rattle.std.specs.Prelude.{◌≡◌, ℕ, ◌*◌, ◌<◌, ◌≤◌,
 ghost use Rattle.bpf_model.specs.Access.{number_at};
 ghost use Rattle.map_table.specs.Limits.{most_words};
 
+use crate::lengths::WORD_BYTES;
 use bpf_model::{Width, number_of};
 use map_table::MAX_WORDS;
-
-/// How many bytes a word has.
-pub(crate) const WORD_BYTES: usize = 8;
 
 /// The word of a key of one.
 #[inline]

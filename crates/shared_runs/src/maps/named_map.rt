@@ -6,7 +6,8 @@ ghost use Rattle.map_table.specs.Limits.{most_words};
 ghost use Rattle.shared_runs.specs.Named.{AgreeByName, AgreesWith, AreKept, IsKeyUnder, IsRoomFor, KeepsNamed};
 ghost use Rattle.shared_runs.specs.MapTables.{AreBytesOf};
 
-use crate::maps::key_words::{WORD_BYTES, words_of};
+use crate::lengths::WORD_BYTES;
+use crate::maps::key_words::words_of;
 use bpf_model::{MapKind, MapShape};
 use map_table::{MAX_WORDS, TableShape};
 
@@ -98,22 +99,12 @@ fn agrees_with(map: &NamedMap, other: &NamedMap) -> bool
 fn agree_with(map: &NamedMap, maps: &[NamedMap]) -> bool
     ensures { Decides result (All (AgreesWith map.now) maps.now) }
 {
-    for index in 0..maps.len() {
-        if !agrees_with(map, &maps[index]) {
-            return false;
-        }
-    }
-    true
+    maps.iter().all(|other| agrees_with(map, other))
 }
 
 /// Whether maps of one name have the same lengths.
 pub(crate) fn agree_by_name(maps: &[NamedMap]) -> bool
     ensures { Decides result (AgreeByName maps.now) }
 {
-    for index in 0..maps.len() {
-        if !agree_with(&maps[index], maps) {
-            return false;
-        }
-    }
-    true
+    maps.iter().all(|map| agree_with(map, maps))
 }

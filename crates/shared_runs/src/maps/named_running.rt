@@ -166,7 +166,8 @@ pub fn run_named_to_exit(
     value
 }
 
-/// A `MapTable`, as jobs of programs are served from it whose maps it keeps so.
+/// A `MapTable` from which jobs are served. Map `i` of each program is kept there as `maps[i]` says: the list is the same for
+/// all programs.
 #[derive(Clone, Copy)]
 pub struct NamedRuns<'a> {
     pub table: &'a MapTable,

@@ -11,5 +11,5 @@ loop-index-preserved c =
     let number = c.args.first + n in
     let inside : n < length outcomes = omega arith in
     let at : get_or outcomes n outcome ≡ outcome = sym c.index-outcomes-index.is in
-    let wrote : c.write_job.new.out.items ≡ c.loop-index.text.items ++ job_line number outcome = c.in-Ok.ensures in
+    let wrote : c.write_job.new.out.items ≡ c.loop-index.text.items ++ job_line number outcome = c.in_ok-write_job.ensures in
     wrote ∙ (ap (λ (l : List ℕ). l ++ job_line number outcome) c.loop-index.invariant ∙ next_line c.args.first outcomes n outcome inside at)

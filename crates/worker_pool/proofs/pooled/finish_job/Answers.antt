@@ -8,25 +8,37 @@ use Rattle.worker_pool.proofs.pooled.finish_job.Goals as goal
 pub returns-in_default-exit-clause-fits : goal.returns-in_default-exit-clause-fits
 returns-in_default-exit-clause-fits g c =
     let s = c.step_to_end-moves.ensures in
-    let n = c.exit_noted-note.ensures in (
+    let n = c.exit_noted-note.ensures.noted in (
       c.args.run,
       c.requires.started,
       s.run,
       record { event = s.event; exits = subst HasExitReply c.reply.ensures c.in_default.ensures.ok },
-      record { worker = n.worker ∙ (s.later.number ∙ sym s.by.worker); count = n.count ∙ sym s.count; run_is = n.run; prog = n.prog; context = n.context },
+      record {
+        worker = n.worker ∙ (s.later.number ∙ sym s.by.worker);
+        count = n.count ∙ sym s.count;
+        run_is = n.run_is;
+        prog = n.prog_is;
+        context = n.context_is;
+      },
       record { none = sym c.exit.ensures ∙ c.in_default-exit.is; told = refl },
     )
 
 pub returns-clause-fits : goal.returns-clause-fits
 returns-clause-fits g c =
     let s = c.step_to_end-moves.ensures in
-    let n = c.exit_noted-note.ensures in
+    let n = c.exit_noted-note.ensures.noted in
     let noted = sym c.exit.ensures ∙ c.in-Some.is in (
       c.args.run,
       c.requires.started,
       s.run,
       record { event = s.event; exits = subst HasExitReply c.reply.ensures c.in_default.ensures.ok },
-      record { worker = n.worker ∙ (s.later.number ∙ sym s.by.worker); count = n.count ∙ sym s.count; run_is = n.run; prog = n.prog; context = n.context },
+      record {
+        worker = n.worker ∙ (s.later.number ∙ sym s.by.worker);
+        count = n.count ∙ sym s.count;
+        run_is = n.run_is;
+        prog = n.prog_is;
+        context = n.context_is;
+      },
       record {
         value = c.in-Some.value;
         noted = noted;
