@@ -156,7 +156,6 @@ static void runs(void)
 	IS(bpfrt_prog_close(&prog), 0);
 }
 
-/* A program that has a context of packets gives its byte `at`. */
 /* A null pointer with a length: what was in `why` before is gone. */
 static void nulls(void)
 {
@@ -195,6 +194,7 @@ static void packets_in_turn(void)
 	IS(bpfrt_prog_close(&prog), 0);
 }
 
+/* A program that has a context of packets gives its byte `at`. */
 static uint64_t byte_of(uint8_t at, uint8_t high, const void *packet, size_t captured, uint32_t length)
 {
 	const unsigned char load[] = {0x71, 0x10, at, high, 0, 0, 0, 0, 0x95, 0, 0, 0, 0, 0, 0, 0};

@@ -37,6 +37,7 @@ pub enum Error {
 impl fmt::Display for Error {
     fn fmt(&self, out: &mut fmt::Formatter) -> fmt::Result {
         match self {
+            Error::Refused { code, place: 0, words, .. } => write!(out, "refused {code}: {words}"),
             Error::Refused { code, at, words, .. } => write!(out, "refused {code} at {at}: {words}"),
             Error::Errno(number) => write!(out, "the call answers {number}"),
         }

@@ -9,15 +9,15 @@ The methods that both classes have give the same, and raise the same by name. He
 
 - a program may be loaded at any time, a map only before the first call that needs them all (`put`, `get`, `delete`, `start`, `reap`,
   `advance`, or a run of a program that names one);
-- `run_buffer`, `run_packet`, `run_packets`, `load_filter`, `load_array` and `load_policy` come to it, and `dump`, `stat`, `tidy`,
-  `batch` and `ask` are missing;
+- `run_buffer`, `run_packet`, `run_packets`, `run_places`, `load_filter`, `load_array` and `load_policy` come to it, and `dump`,
+  `stat`, `tidy`, `batch` and `ask` are missing;
 - `reap` says only whether an element was reclaimed, no call has `timeout=`, and a refusal has no `text`;
 - want of memory is a MemoryError, and nothing has changed.
 
 A call cannot be cut off in its midst, so a Runtime does not break. Threads may share one: calls wait for one another. The child of a
 fork makes a Runtime of its own.
 
-A Table is a map of its own, over which up to eight threads run programs at the same time while another changes it:
+A Table is a map of its own, over which up to 64 threads run programs at the same time while another changes it:
 
     table = Table(bpf, readers=2, elements=1000, key_words=1, value_words=2)
     table.set([7], [0, 0])
@@ -144,7 +144,7 @@ def lent(data):
 def room_for(count):
     """An array for so many values, and where it lies, while nothing else has it."""
     values = ZERO * count
-    return values, values.buffer_info()[0]
+    return values, (values if count else ZERO).buffer_info()[0]  # never null, as bpfrt.h wants of what is given to an export
 
 
 class Held:
@@ -450,7 +450,7 @@ class Runtime:
         """Runs a filter on a packet, of which so many bytes were on the wire: what the classic program returns."""
         with self._turn:
             held, (room, size) = self._program(program).held, lent(packet)
-            value, length = U64(), size if length is None else checked_u32(length)
+            value, length = U64(), checked_u32(size if length is None else length)
             try:
                 self._call("prog_run_packet", held, room, size, length, value)
             except OSError as error:
@@ -461,7 +461,7 @@ class Runtime:
         """Runs a filter on packets that lie in a buffer: an array of the values. `places` is a buffer too, with 16 bytes a packet:
         where it begins, how much of it was captured, and how many bytes it had on the wire (struct's "=QII"). No packet is copied."""
         with self._turn:
-            held, (room, size), (rows, length) = self._program(program).held, lent(data), lent(places)
+            held, (room, size), (rows, length) = self._program(program).held, lent(data), lent(bytes_of(places))  # aligned
             if length % 16:
                 raise Refused(63, f"places of {length} bytes, and one has 16")
             values, to = room_for(length // 16)

@@ -73,7 +73,7 @@ static void count_passing(Program &filter, const std::string &capture)
 		std::memcpy(&magic, capture.data(), sizeof magic);
 	if (magic != 0xa1b2c3d4 && magic != 0xa1b23c4d)
 		throw std::runtime_error("the capture is no pcap file of this machine's byte order");
-	for (std::size_t at = 24; at < capture.size(); at += 16 + lengths[0], count++) {
+	for (std::size_t at = 24; at < capture.size(); at += std::size_t{16} + lengths[0], count++) {
 		if (capture.size() - at < 16)
 			throw std::runtime_error("the capture ends inside a packet's head");
 		std::memcpy(lengths, capture.data() + at + 8, sizeof lengths);

@@ -31,7 +31,7 @@ func start(bytes []byte) unsafe.Pointer {
 func Open(text []byte) (*Program, error) {
 	program, why := new(Program), C.struct_bpfrt_refusal{}
 	if C.bpfrt_prog_open_tcpdump(&program.handle, start(text), C.size_t(len(text)), &why) != 0 {
-		return nil, fmt.Errorf("refused %d at %d: %s", why.code, why.at, C.GoString(&why.words[0]))
+		return nil, fmt.Errorf("refused %d: %s", why.code, C.GoString(&why.words[0]))
 	}
 	return program, nil
 }

@@ -36,7 +36,7 @@ static void open_filter(struct bpfrt_prog *filter, const char *path)
 		fail(path, "cannot be read, or is too long");
 	fclose(file);
 	if (bpfrt_prog_open_tcpdump(filter, text, size, &why)) {
-		fprintf(stderr, "filter_capture: refused %u at %llu\n", why.code, (unsigned long long)why.at);
+		fprintf(stderr, "filter_capture: refused %u\n", why.code);
 		fail(path, why.words);
 	}
 }

@@ -24,8 +24,9 @@
  *     moved: copied, if its old place is then set to zero.
  *   - No two calls at once take the same handle. Open the handles of other threads from yours (bpfrt_prog_share,
  *     bpfrt_table_reader). Hand a handle over by a lock, a start or a join.
- *   - A pointer leads to as many bytes, or items, as its length says. It may be null where that is 0; elsewhere the answer is
- *     -EINVAL. `why` and `value` may be null.
+ *   - A pointer leads to as many bytes, or items, as its length says, and is aligned for its type. It may be null where that is 0;
+ *     elsewhere the answer is -EINVAL. `why` and `value` may be null. A pointer to a handle, a shape or counts (`stat`) is never
+ *     null, and nothing checks it.
  *   - Memory that a call writes is none that it reads.
  *   - No call comes from a signal handler, or from the child of a fork of a process with threads.
  *   - malloc, realloc and free are those of one allocator, and align a block to each power of two up to 16 that divides its size.
@@ -368,8 +369,9 @@ static inline int32_t bpfrt_world_load(struct bpfrt_world *world, struct bpfrt_p
 }
 
 /* Stores a value under a key. Flags: 0, or 1 for a new key alone (-EEXIST), or 2 for one that is there (-ENOENT). -E2BIG where the
-   map is full; -ENOMEM where no slot is free before a grace period has ended (bpfrt_world_advance); -ENXIO where no map has the
-   number; -EINVAL for a wrong length or flag. */
+   map is full, or an array has no such index. -ENOMEM where no slot is free: until a grace period has ended (bpfrt_world_advance) and
+   bpfrt_world_reap has reclaimed an element, or for good where the slots are worn. -ENXIO where no map has the number; -EINVAL for a
+   wrong length or flag. */
 static inline int32_t bpfrt_map_update_elem(struct bpfrt_world *world, uint32_t map, const void *key, size_t key_size, const void
 	*value, size_t value_size, uint64_t flags)
 {
@@ -554,8 +556,9 @@ static inline int32_t bpfrt_table_delete_elem(struct bpfrt_table *table, const u
 }
 
 /* Writes the key that comes after `key`, in the table's own order: the first of all, if `key` is null or is not there. A walk gives
-   each time the key that it met last. It meets each key that stays once, unless a key that it gives was removed. A key that is replaced stays. A new key that is put between two calls may move another one, which the walk may then miss or
-   meet twice. Where the key that is given was moved, the walk goes on from its new place. -ENOENT where none comes behind; -EINVAL. */
+   each time the key that it met last. It meets each key that stays once, unless a key that it gives was removed. A key that is
+   replaced stays. A new key that is put between two calls may move another one, which the walk may then miss or meet twice. Where
+   the key that is given was moved, the walk goes on from its new place. -ENOENT where none comes behind; -EINVAL. */
 static inline int32_t bpfrt_table_get_next_key(struct bpfrt_table *table, const uint64_t *key, size_t key_words, uint64_t *next)
 {
 	if (!next && key_words)

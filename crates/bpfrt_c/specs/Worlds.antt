@@ -61,6 +61,11 @@ abbrev pub FindsBytes : Answer → List ℕ → Type 0
 FindsBytes (answers.Found (Some value)) bytes = bytes ≡ value.items
 FindsBytes answer bytes = ⊥
 
+-- The answer is that a key has so many bytes.
+abbrev pub FindsLength : Answer → ℕ → Type 0
+FindsLength (answers.Found (Some value)) count = count ≡ length value.items
+FindsLength answer count = ⊥
+
 -- a world of new maps of these shapes, without programs
 pub record IsNewWorld (shapes : List MapShape) (w : WorldView) : Type 0 where
   pub names : List (List ℕ)

@@ -1,5 +1,5 @@
 //! The call that copies a table's keys into another.
-ghost use Rattle.std.specs.Prelude.{◌≡◌, ◌≢◌, ◌⊎◌, ℤ, pos, neg_ℤ, IfSome, Some, None};
+ghost use Rattle.std.specs.Prelude.{◌≡◌, ◌≢◌, ◌⊎◌, pos, neg_ℤ, IfSome, Some, None};
 ghost use Rattle.bpfrt_c.specs.Copying.{CopiesIn, StopsIn};
 ghost use Rattle.bpfrt_c.specs.Tables.{set_error};
 ghost use Rattle.host_tables.specs.Copies.{AreAlike};

@@ -1,5 +1,5 @@
 //! How a table's keys are asked for, one after another.
-ghost use Rattle.std.specs.Prelude.{◌≡◌, ◌≢◌, ◌⊎◌, List, pos, neg_ℤ, Some, None, IfSome, length, true, false};
+ghost use Rattle.std.specs.Prelude.{◌≡◌, ◌≢◌, ◌⊎◌, pos, neg_ℤ, Some, None, IfSome, true, false};
 ghost use Rattle.host_tables.specs.Walks.{Meets, MeetsNone};
 ghost use Rattle.host_handle.specs.Values.{table_in};
 ghost use Rattle.bpfrt_c.specs.Tables.{CanMeet, WritesIn, key_in_c};

@@ -2,7 +2,7 @@
 //!
 //! A handle is a struct of two words which the host owns, all zeros where it is closed. Each call tests what it is given, and
 //! answers with 0 or more, or with a negative number of errno's; none has a `requires`. What the host owes, and nothing checks,
-//! stands in `bpfrt.h` and in SECURITY.md.
+//! stands in `bpfrt.h` and in docs/EMBEDDING.md.
 #![tactic(auto)]
 
 mod asked;

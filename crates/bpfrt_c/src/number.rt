@@ -15,7 +15,7 @@ pub const ENOMEM: i32 = -12;
 /// The verifier refuses the program.
 pub const EACCES: i32 = -13;
 
-/// The handle holds something already.
+/// The handle holds something already; or the run has not exited.
 pub const EBUSY: i32 = -16;
 
 /// There is such an element.
@@ -27,7 +27,8 @@ pub const ENOSPC: i32 = -28;
 /// An argument is none that the call takes.
 pub const EINVAL: i32 = -22;
 
-/// The program names a map, so it runs over a world or a table alone; or it stores less than a word, so it runs in a world alone.
+/// The program names a map, so it runs in a world or over a table alone; or it stores less than a word or changes a map, so it
+/// runs in a world alone.
 pub const EOPNOTSUPP: i32 = -95;
 
 /// No run has the number, or it has ended.

@@ -5,7 +5,7 @@ ghost use Rattle.bpfrt_c.specs.Shapes.{shape_in_c, AreShapesInC, IsShapesFault};
 
 use bpf_model::{MAX_MAPS, MapKind, MapShape};
 use host_programs::OpenFault;
-use std::alloc::{AllocError, AllocFailed, Global};
+use std::alloc::{AllocFailed, Global};
 
 /// In C `struct bpfrt_map_shape`. Types are Linux's: 1 is a hash map, 2 an array, and any other none.
 #[repr(C)]
@@ -43,16 +43,6 @@ fn shape_of(shape: &Shape) -> Option<MapShape>
 pub enum ShapesFault {
     Fault(OpenFault),
     Memory,
-}
-
-impl From<AllocError> for ShapesFault {
-    ghost use Rattle.bpfrt_c.specs.declared.shape.ShapesFault.TheVariants.{Memory};
-
-    ghost from_gives = { λ _ e. e ≡ Memory };
-
-    fn from(_: AllocError) -> ShapesFault {
-        ShapesFault::Memory
-    }
 }
 
 impl<T: Drop> From<AllocFailed<T>> for ShapesFault {

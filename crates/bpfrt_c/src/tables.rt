@@ -1,5 +1,5 @@
 //! Tables: how they are opened, and what their writer does.
-ghost use Rattle.std.specs.Prelude.{◌≡◌, ◌≢◌, ◌<◌, ◌^◌, ◌⊎◌, ◌↔◌, ℕ, List, pos, neg_ℤ, Some, None, Err, IsSome, IfSome, IfOk, IfErr, OnOk, OnErr, length};
+ghost use Rattle.std.specs.Prelude.{◌≡◌, ◌≢◌, ◌<◌, ◌^◌, ◌⊎◌, ◌↔◌, ℕ, List, pos, neg_ℤ, Some, None, Err, IsSome, IfSome, IfOk, IfErr, OnErr, length};
 ghost use Rattle.host_tables.specs.Tables.{IsNewTable, Reads, Reclaims, Removes, Seeks};
 ghost use Rattle.host_tables.specs.declared.fault.SetFault.{SetFault as Fault_};
 ghost use Rattle.host_handle.specs.Values.{reader_in, table_in};

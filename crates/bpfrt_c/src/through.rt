@@ -1,5 +1,5 @@
 //! Whole runs in a world.
-ghost use Rattle.std.specs.Prelude.{◌≡◌, ◌≢◌, ◌≤◌, pos, neg_ℤ, Some, None, Err, IfOk, IfErr, length};
+ghost use Rattle.std.specs.Prelude.{◌≡◌, ◌≢◌, ◌<◌, ◌≤◌, pos, neg_ℤ, Some, None, Err, IfOk, IfErr, length};
 ghost use Rattle.bpf_model.specs.declared.event.Answer.TheVariants as answers;
 ghost use Rattle.bpf_model.specs.declared.event.Event.TheVariants as events;
 ghost use Rattle.bpf_model.specs.declared.event.EventRefusal.{EventRefusal as Refusal_};
@@ -7,7 +7,7 @@ ghost use Rattle.bpf_model.specs.declared.limits.TheConstants.{CTX_BYTES};
 ghost use Rattle.host_handle.specs.Values.{world_in};
 ghost use Rattle.world.specs.Through.{RunsThrough};
 ghost use Rattle.world_laws.specs.Reacting.{full_reaction};
-ghost use Rattle.bpfrt_c.specs.Worlds.{IsAnswer, Reacts, RunsThroughIn, refusal_error};
+ghost use Rattle.bpfrt_c.specs.Worlds.{IsAnswer, RunsThroughIn, refusal_error};
 
 use crate::number::{EBADF, EINVAL};
 use crate::worlds::number_of_refusal;
@@ -48,6 +48,8 @@ pub extern "C" fn bpfrt0_world_run(
     ensures refused { (why : Refusal_) → length context.now ≤ CTX_BYTES →
         IsAnswer (events.Start prog (record { items = context.now })) (world_in host.old.handle.held) (answers.Refused why) →
         (result ≡ neg_ℤ (pos (refusal_error why))) × (world_in host.new.handle.held ≡ world_in host.old.handle.held) }
+    ensures long { CTX_BYTES < length context.now →
+        (result ≡ neg_ℤ (pos 22)) × (host.new.handle.held ≡ host.old.handle.held) }
     ensures none { world_in host.old.handle.held ≡ None → host.new.handle.held ≡ host.old.handle.held }
     ensures unwritten { result ≢ pos 0 → value.new ≡ value.old }
 {

@@ -7,7 +7,7 @@ ghost use Rattle.bpf_model.specs.declared.event.Event.TheVariants as events;
 ghost use Rattle.bpf_model.specs.declared.limits.TheConstants.{CTX_BYTES, KEY_BYTES, VALUE_BYTES};
 ghost use Rattle.host_handle.specs.Values.{world_in};
 ghost use Rattle.model_laws.specs.Reactions.{read_reaction};
-ghost use Rattle.bpfrt_c.specs.Worlds.{FindsBytes, IsAnswer, IsNumberOf, Reacts, answer_number, refusal_error};
+ghost use Rattle.bpfrt_c.specs.Worlds.{FindsBytes, FindsLength, IsAnswer, IsNumberOf, Reacts, answer_number, refusal_error};
 
 use crate::number::{EAGAIN, EBADF, EBUSY, EINVAL, ENOENT, ENXIO, ESRCH};
 use bpf_model::{
@@ -101,6 +101,7 @@ pub extern "C" fn bpfrt0_map_update_elem(
         (world_in host.old.handle.held) (world_in host.new.handle.held) }
     ensures long { (KEY_BYTES < length key.now) ⊎ (VALUE_BYTES < length value.now) →
         (result ≡ neg_ℤ (pos 22)) × (host.new.handle.held ≡ host.old.handle.held) }
+    ensures none { world_in host.old.handle.held ≡ None → host.new.handle.held ≡ host.old.handle.held }
 {
     if key.len() > KEY_BYTES || value.len() > VALUE_BYTES {
         return EINVAL;
@@ -128,6 +129,7 @@ pub extern "C" fn bpfrt0_map_delete_elem(
         (world_in host.old.handle.held) (world_in host.new.handle.held) }
     ensures long { KEY_BYTES < length key.now →
         (result ≡ neg_ℤ (pos 22)) × (host.new.handle.held ≡ host.old.handle.held) }
+    ensures none { world_in host.old.handle.held ≡ None → host.new.handle.held ≡ host.old.handle.held }
 {
     if key.len() > KEY_BYTES {
         return EINVAL;
@@ -143,6 +145,7 @@ pub extern "C" fn bpfrt0_map_delete_elem(
 /// event would do, which changes nothing, without an answer of its own.
 fn read_value(world: &World, map: u32, key: &[u8], value: &mut [u8]) -> i32
     ensures copied { result ≡ pos 0 → FindsBytes (read_reaction world.now map key.now).0 value.new }
+    ensures there { FindsLength (read_reaction world.now map key.now).0 (length value.old) → result ≡ pos 0 }
     ensures missing { (read_reaction world.now map key.now).0 ≡ answers.Found None → result ≡ neg_ℤ (pos 2) }
     ensures same { (read_reaction world.now map key.now).1 ≡ world.now }
     ensures unwritten { result ≢ pos 0 → value.new ≡ value.old }
@@ -175,6 +178,9 @@ pub extern "C" fn bpfrt0_map_lookup_elem(
     ensures found { result ≡ pos 0 → (answer : Answer_)
         × IsAnswer (events.Read map (record { items = key.now })) (world_in host.old.handle.held) answer
         × FindsBytes answer value.new }
+    ensures there { (answer : Answer_) → length key.now ≤ KEY_BYTES →
+        IsAnswer (events.Read map (record { items = key.now })) (world_in host.old.handle.held) answer →
+        FindsLength answer (length value.old) → result ≡ pos 0 }
     ensures missing { length key.now ≤ KEY_BYTES →
         IsAnswer (events.Read map (record { items = key.now })) (world_in host.old.handle.held) (answers.Found None) →
         result ≡ neg_ℤ (pos 2) }
@@ -183,6 +189,8 @@ pub extern "C" fn bpfrt0_map_lookup_elem(
         (world_in host.old.handle.held) (world_in host.new.handle.held) }
     ensures long { KEY_BYTES < length key.now →
         (result ≡ neg_ℤ (pos 22)) × (host.new.handle.held ≡ host.old.handle.held) }
+    ensures none { length key.now ≤ KEY_BYTES → world_in host.old.handle.held ≡ None →
+        (result ≡ neg_ℤ (pos 9)) × (host.new.handle.held ≡ host.old.handle.held) }
 {
     if key.len() > KEY_BYTES {
         return EINVAL;
@@ -236,6 +244,8 @@ pub extern "C" fn bpfrt0_world_start(
         (world_in host.old.handle.held) (world_in host.new.handle.held) }
     ensures long { CTX_BYTES < length context.now →
         (result ≡ neg_ℤ (pos 22)) × (host.new.handle.held ≡ host.old.handle.held) }
+    ensures none { length context.now ≤ CTX_BYTES → world_in host.old.handle.held ≡ None →
+        (result ≡ neg_ℤ (pos 9)) × (host.new.handle.held ≡ host.old.handle.held) }
 {
     if context.len() > CTX_BYTES {
         return EINVAL;
@@ -263,6 +273,7 @@ pub extern "C" fn bpfrt0_world_step(
     ensures reacts { Reacts (events.Step run) (world_in host.old.handle.held) (world_in host.new.handle.held) }
     ensures exited { result ≡ pos 1 → IsAnswer (events.Step run) (world_in host.old.handle.held) (answers.Exited value.new) }
     ensures unwritten { result ≢ pos 1 → value.new ≡ value.old }
+    ensures none { world_in host.old.handle.held ≡ None → host.new.handle.held ≡ host.old.handle.held }
 {
     let event = Event::Step {
         run: RunId::new(run as usize),
@@ -282,6 +293,7 @@ pub extern "C" fn bpfrt0_world_step(
 pub extern "C" fn bpfrt0_world_drop(alloc: Global, host: &mut Host, run: u32) -> i32
     ensures number { IsNumberOf (events.Drop run) (world_in host.old.handle.held) result }
     ensures reacts { Reacts (events.Drop run) (world_in host.old.handle.held) (world_in host.new.handle.held) }
+    ensures none { world_in host.old.handle.held ≡ None → host.new.handle.held ≡ host.old.handle.held }
 {
     let event = Event::Drop {
         run: RunId::new(run as usize),
@@ -294,6 +306,7 @@ pub extern "C" fn bpfrt0_world_drop(alloc: Global, host: &mut Host, run: u32) ->
 pub extern "C" fn bpfrt0_world_advance(alloc: Global, host: &mut Host) -> i32
     ensures number { IsNumberOf events.Advance (world_in host.old.handle.held) result }
     ensures reacts { Reacts events.Advance (world_in host.old.handle.held) (world_in host.new.handle.held) }
+    ensures none { world_in host.old.handle.held ≡ None → host.new.handle.held ≡ host.old.handle.held }
 {
     number_by(alloc, host, &Event::Advance)
 }
@@ -303,6 +316,7 @@ pub extern "C" fn bpfrt0_world_advance(alloc: Global, host: &mut Host) -> i32
 pub extern "C" fn bpfrt0_world_reap(alloc: Global, host: &mut Host) -> i32
     ensures number { IsNumberOf events.Reap (world_in host.old.handle.held) result }
     ensures reacts { Reacts events.Reap (world_in host.old.handle.held) (world_in host.new.handle.held) }
+    ensures none { world_in host.old.handle.held ≡ None → host.new.handle.held ≡ host.old.handle.held }
 {
     number_by(alloc, host, &Event::Reap)
 }

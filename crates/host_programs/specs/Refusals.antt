@@ -99,5 +99,5 @@ IsListingFault bytes fault = IsListedFault bytes fault
 -- why an array of instructions is not opened
 abbrev pub IsArrayFault : Data → List ℕ → OpenFault → Type 0
 IsArrayFault kind bytes (Unread read_faults.Memory) = Unit {0}
-IsArrayFault kind bytes (Unread fault) = length bytes % 8 ≢ 0
+IsArrayFault kind bytes (Unread fault) = (fault ≡ read_faults.CutRecord) × (length bytes % 8 ≢ 0)
 IsArrayFault kind bytes fault = IsClassicFault kind (filters_in bytes) fault

@@ -16,6 +16,6 @@ mod running;
 pub use classic::{Data, PACKET_BYTES, PACKET_CONTEXT};
 pub use fault::{OpenFault, Place, RunFault};
 pub use opened::Opened;
-pub use packet::{PacketAt, are_inside, packet_context};
+pub use packet::{PacketAt, are_inside};
 pub use program::HostProgram;
 pub use room::Room;

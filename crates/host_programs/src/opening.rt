@@ -1,9 +1,8 @@
 //! How programs are opened.
-ghost use Rattle.std.specs.Prelude.{◌≡◌, ◌≤◌, ℕ, Some, IfOk, IfErr, IfSome, IfNone, List, length, slice_get};
-ghost use Rattle.bpf_model.specs.declared.insn.Insn.{Insn};
+ghost use Rattle.std.specs.Prelude.{◌≡◌, ◌≤◌, Some, IfOk, IfErr, IfSome, IfNone, List, length};
 ghost use Rattle.bpf_model.specs.declared.limits.TheConstants.{CTX_BYTES, MAX_MAPS};
 ghost use Rattle.bpf_model.specs.Shapes.{AreShapes};
-ghost use Rattle.bpf_model.specs.Spelling.{IsProgram, text};
+ghost use Rattle.bpf_model.specs.Spelling.{text};
 ghost use Rattle.classic_program.specs.Reading.{IsListing, filters_in};
 ghost use Rattle.classic_program.specs.WellFormed.{checked};
 ghost use Rattle.classic_program.specs.declared.data.Data.TheVariants.{Packet};

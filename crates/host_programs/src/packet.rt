@@ -1,6 +1,5 @@
 //! The context of a packet, and packets among bytes.
-ghost use Rattle.std.specs.Prelude.{◌≡◌, ◌≤◌, ◌+◌, ◌++◌, Decides, length, take};
-ghost use Rattle.bpf_model.specs.declared.limits.TheConstants.{CTX_BYTES};
+ghost use Rattle.std.specs.Prelude.{◌≡◌, ◌+◌, Decides, length, take};
 ghost use Rattle.bpf_model.specs.Real.{AreBytes};
 ghost use Rattle.classic_program.specs.Context.{IsPacketContext, packet_bytes};
 ghost use Rattle.host_programs.specs.Packets.{AreInside, IsInside, bytes_of, seen};
@@ -18,15 +17,6 @@ pub(crate) fn fill_context(context: &mut [u8; PACKET_CONTEXT], packet: &[u8], wi
     context[..4].copy_from_slice(&(seen as u32).to_le_bytes());
     context[4..8].copy_from_slice(&wire.to_le_bytes());
     context[8..8 + seen].copy_from_slice(&packet[..seen]);
-}
-
-/// The context of a packet, with zeros behind the bytes that a program sees.
-pub fn packet_context(packet: &[u8], wire: u32) -> [u8; PACKET_CONTEXT]
-    ensures { IsPacketContext (seen packet.now wire) result }
-{
-    let mut context = [0; PACKET_CONTEXT];
-    fill_context(&mut context, packet, wire);
-    context
 }
 
 /// Where a packet lies among bytes, how many of it were captured, and how long it was on the wire. In C `struct bpfrt_packet`.

@@ -1,5 +1,5 @@
 //! Runs of an open program by itself.
-ghost use Rattle.std.specs.Prelude.{◌≡◌, ◌≢◌, ◌*◌, ◌⊎◌, ◌↔◌, Err, IsOk, IfOk, OnOk, OnErr, length};
+ghost use Rattle.std.specs.Prelude.{◌≡◌, ◌≢◌, ◌*◌, ◌↔◌, Err, IsOk, IfOk, OnOk, OnErr, length};
 ghost use Rattle.bpf_model.specs.Exit.{HasNoMaps};
 ghost use Rattle.classic_program.specs.Context.{context_bytes};
 ghost use Rattle.classic_program.specs.declared.data.Data.TheVariants.{Packet};

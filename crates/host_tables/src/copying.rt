@@ -1,5 +1,5 @@
 //! How the keys of one table are copied into another.
-ghost use Rattle.std.specs.Prelude.{◌≡◌, ◌<◌, ◌≤◌, ℕ, List, OnOk, IfErr, length, true, false};
+ghost use Rattle.std.specs.Prelude.{◌≡◌, ◌<◌, ℕ, List, OnOk, IfErr, length, true, false};
 ghost use Rattle.map_table.specs.Law.{ways_of};
 ghost use Rattle.map_table.specs.Values.{stored_of};
 ghost use Rattle.map_table.specs.Writing.{WriterView};
@@ -48,7 +48,7 @@ fn load_way(
     writer.value_at(table, way, words)
 }
 
-/// Copies the key of a way, with the values of its element, if there is one.
+/// Copies the key of a way, with the values of its element, if there is one, by these words.
 #[tactic(auto, using(crate::proofs::Kept::alike_stored))]
 fn copy_way(
     table: &MapTable,
@@ -56,23 +56,24 @@ fn copy_way(
     way: usize,
     other: &MapTable,
     other_writer: &mut Writer,
+    key: &mut [u64],
+    words: &mut [u64],
 ) -> Result<(), SetFault>
     requires table { writer.old.table ≡ table.now }
     requires other { other_writer.old.table ≡ other.now }
     requires alike { AreAlike table.now.shape other.now.shape }
     requires way { way < ways_of table.now.shape }
+    requires key { length key.old ≡ table.now.shape.key_words }
+    requires words { length words.old ≡ stored_of table.now.shape }
     ensures table { writer.new.table ≡ writer.old.table }
     ensures other { other_writer.new.table ≡ other_writer.old.table }
     ensures copies { OnOk result (CopiesWay way writer.old other_writer.old writer.new other_writer.new) }
     ensures fault { IfErr result (StopsAt way writer.old other_writer.old writer.new other_writer.new) }
+    ensures key_count { length key.new ≡ length key.old }
+    ensures word_count { length words.new ≡ length words.old }
     ensures tidy { IsTidy writer.old → IsTidy writer.new }
     ensures other_tidy { IsTidy other_writer.old → IsTidy other_writer.new }
 {
-    let shape = table.shape();
-    let mut key_words = [0; MAX_WORDS];
-    let mut value_words = [0; MAX_STORED];
-    let key = &mut key_words[..shape.key_words];
-    let words = &mut value_words[..shape.stored_words()];
     if !load_way(table, writer, way, key, words) {
         return Ok(());
     }
@@ -96,8 +97,13 @@ pub(crate) fn copy_all(
     ensures tidy { IsTidy writer.old → IsTidy writer.new }
     ensures other_tidy { IsTidy other_writer.old → IsTidy other_writer.new }
 {
-    for way in 0..table.shape().buckets * BUCKET_WAYS {
-        copy_way(table, writer, way, other, other_writer)?;
+    let shape = table.shape();
+    let mut key_words = [0; MAX_WORDS];
+    let mut value_words = [0; MAX_STORED];
+    let key = &mut key_words[..shape.key_words];
+    let words = &mut value_words[..shape.stored_words()];
+    for way in 0..shape.buckets * BUCKET_WAYS {
+        copy_way(table, writer, way, other, other_writer, key, words)?;
     }
     Ok(())
 }

@@ -1,5 +1,5 @@
 //! A table with its writer.
-ghost use Rattle.std.specs.Prelude.{◌≡◌, ◌≢◌, ◌↔◌, ◌<◌, ◌+◌, [], ◌∷◌, ℕ, List, Decides, Err, None, IfSome, IfNone, IsNone, IfOk, IfErr, IsOk, OnOk, option_copied, length, true, false};
+ghost use Rattle.std.specs.Prelude.{◌≡◌, ◌≢◌, ◌↔◌, ◌<◌, ◌+◌, ℕ, List, Decides, Err, None, IfSome, IfNone, IsNone, IfOk, IfErr, IsOk, OnOk, option_copied, length, true, false};
 ghost use Rattle.map_table.specs.Hashes.{layout_of};
 ghost use Rattle.map_table.specs.Held.{IsNew, IsReady, IsSized};
 ghost use Rattle.map_table.specs.Writing.{MakesSeat};
