@@ -1,7 +1,7 @@
 //! The names that a source gives a meaning.
-ghost use Rattle.std.specs.Prelude.{◌≡◌, ◌+◌, ◌<◌, ◌≤◌, ◌*◌, ◌^◌, ℕ, List, Ok, Some, None, IsTrue, IfOk, IfErr, IfSome, IfNone, OnOk, option_map};
+ghost use Rattle.std.specs.Prelude.{◌≡◌, ◌+◌, ◌<◌, ◌≤◌, ◌^◌, Ok, Some, None, IfOk, IfErr, OnOk};
 ghost use Rattle.asm_source.specs.Tokens.{tokens_of};
-ghost use Rattle.asm_source.specs.Names.{Binding, instruction_in, slots_of, slots_after as slots_behind, signed_in, constant_in, with_binding, with_constant, with_label, with_line, names_in, is_name as is_name_word};
+ghost use Rattle.asm_source.specs.Names.{instruction_in, slots_after as slots_behind, signed_in, constant_in, with_binding, with_line, names_in};
 ghost use Rattle.asm_source.specs.Faulty.{IsFaultOf};
 
 use crate::fault::SourceFault;

@@ -9,7 +9,7 @@ use thiserror::Error;
 /// The first thing that is wrong with the names of a source, or that memory ran out. Lines are counted from 1.
 #[derive(Clone, Copy, Debug, PartialEq, Eq, Drop, Error)]
 pub enum SourceFault {
-    /// The line gives a meaning to a word that may have none: a register, a number, a mark or nothing.
+    /// The line gives a meaning to what is no name, as a register, a number, a mark, nothing, or a word like `@x`.
     #[error("line {0}: a name begins with a letter, `_` or `.`, and is no register")]
     BadName(usize),
     /// The line gives a meaning to a name that has one by a line above it.

@@ -1,5 +1,5 @@
 //! The lines above a line `code`, as they are read.
-ghost use Rattle.std.specs.Prelude.{◌≡◌, ◌++◌, ◌∷◌, List, ℕ, flat_map, IfOk, OnOk};
+ghost use Rattle.std.specs.Prelude.{◌≡◌, ◌++◌, ◌∷◌, flat_map, IfOk, OnOk};
 ghost use Rattle.asm_source.specs.Head.{head_text as text_of_head, line_of_tokens};
 ghost use Rattle.asm_source.specs.Tokens.{tokens_of};
 

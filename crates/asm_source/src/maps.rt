@@ -1,5 +1,5 @@
 //! The names of a program's maps.
-ghost use Rattle.std.specs.Prelude.{◌≡◌, ◌==◌, ◌≤◌, ℕ, List, not, length, option_copied, position, bytes_eq, IfOk, OnOk, ◌++◌};
+ghost use Rattle.std.specs.Prelude.{◌≡◌, ◌==◌, ◌≤◌, not, length, option_copied, position, bytes_eq, IfOk, OnOk, ◌++◌};
 ghost use Rattle.std.specs.Option.{option_to_list};
 ghost use Rattle.std.specs.List.{prefix_len};
 ghost use Rattle.asm_source.specs.Maps.{index_in, texts, map_name_in, maps_in};

@@ -1,5 +1,5 @@
 //! Names, and what they stand for.
-ghost use Rattle.std.specs.Prelude.{◌≡◌, List, ℕ, option_copied, bytes_eq, codes};
+ghost use Rattle.std.specs.Prelude.{◌≡◌, option_copied, bytes_eq, codes};
 ghost use Rattle.std.specs.Str.{all_ascii_digits};
 ghost use Rattle.asm_source.specs.Names.{Binding, is_register as is_register_word, begins_name as begins_name_byte, is_name as is_name_word, label_in as label_of};
 

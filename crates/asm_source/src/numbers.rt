@@ -1,5 +1,5 @@
 //! Numbers in words.
-ghost use Rattle.std.specs.Prelude.{◌≡◌, ◌<◌, ◌≤◌, ◌++◌, ℕ, OnOk};
+ghost use Rattle.std.specs.Prelude.{◌≡◌, ◌<◌, ◌++◌, OnOk};
 ghost use Rattle.std.specs.Char.{digit_value as value_of_digit};
 ghost use Rattle.disasm.specs.Text.{numeral};
 ghost use Rattle.asm_source.specs.Numbers.{with_digit, digits_in, hex_in as hex_of, decimal_in as decimal_of, number_in as number_of};
@@ -13,8 +13,8 @@ fn digit_value(byte: u8) -> u64
 {
     match byte {
         b'0'..=b'9' => u64::from(byte - b'0'),
-        b'A'..=b'Z' => u64::from(byte - 55),
-        b'a'..=b'z' => u64::from(byte - 87),
+        b'A'..=b'Z' => u64::from(byte - b'A') + 10,
+        b'a'..=b'z' => u64::from(byte - b'a') + 10,
         _ => 36,
     }
 }

@@ -1,5 +1,5 @@
 //! The plain text of a source.
-ghost use Rattle.std.specs.Prelude.{◌≡◌, ◌<◌, ◌≤◌, ◌^◌, ℕ, List, Ok, OnOk, IfOk, IfErr};
+ghost use Rattle.std.specs.Prelude.{◌≡◌, ◌<◌, ◌^◌, ℕ, List, Ok, OnOk, IfOk, IfErr};
 ghost use Rattle.asm_source.specs.Faulty.{IsFaultOf};
 ghost use Rattle.asm_source.specs.Maps.{index_in, texts, meanings_of};
 ghost use Rattle.asm_source.specs.Plain.{lines_text, line_text, plain, prepended, fed, text_with as text_of_lines};

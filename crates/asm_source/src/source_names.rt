@@ -1,5 +1,5 @@
 //! The names of a source in their order, with an index to find them by.
-ghost use Rattle.std.specs.Prelude.{◌≡◌, ◌++◌, ◌∷◌, [], List, ℕ, None, OnOk, option_copied, bytes_eq, slice_get};
+ghost use Rattle.std.specs.Prelude.{◌≡◌, ◌++◌, ◌∷◌, [], List, None, OnOk, option_copied, bytes_eq, slice_get};
 ghost use Rattle.std.specs.List.{find, position};
 ghost use Rattle.asm_source.specs.Names.{Binding, named as meaning_in};
 ghost use Rattle.asm_source.specs.Index.{IsIndexOf};

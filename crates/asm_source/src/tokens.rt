@@ -1,5 +1,5 @@
 //! The tokens of a line, one after another.
-ghost use Rattle.std.specs.Prelude.{◌≡◌, ◌≢◌, ◌==◌, ◌<◌, ◌≤◌, [], ◌∷◌, List, ℕ, length, slice_index, take, drop, not, false, IfSome, IfNone};
+ghost use Rattle.std.specs.Prelude.{◌≡◌, ◌≢◌, ◌==◌, ◌<◌, ◌≤◌, [], ◌∷◌, List, ℕ, length, slice_index, false, IfSome, IfNone};
 ghost use Rattle.std.specs.List.{prefix_len};
 ghost use Rattle.asm_source.specs.Tokens.{is_blank as is_blank_byte, is_mark as is_mark_byte, is_letter as is_letter_byte, begins_word as begins_with_letter, tokens_of};
 ghost use Rattle.asm_source.specs.Plain.{is_end};
@@ -123,9 +123,6 @@ impl<'a> Tokens<'a> {
         ensures { result ≡ is_end self.now }
     {
         let mut tokens = Tokens { rest: self.rest };
-        match tokens.next() {
-            Some(_) => false,
-            None => true,
-        }
+        tokens.next().is_none()
     }
 }

@@ -1,9 +1,8 @@
 //! The text of tokens.
-ghost use Rattle.std.specs.Prelude.{◌≡◌, ◌++◌, ◌<◌, ◌≤◌, ◌+◌, ◌^◌, ◌∷◌, [], ℕ, List, Ok, OnOk, IfErr, IfOk, codes};
+ghost use Rattle.std.specs.Prelude.{◌≡◌, ◌++◌, ◌<◌, ◌+◌, ◌^◌, Ok, OnOk, IfErr, codes};
 ghost use Rattle.asm_source.specs.Maps.{meanings_of};
-ghost use Rattle.asm_source.specs.Names.{named};
 ghost use Rattle.asm_source.specs.Faulty.{IsFaultOf};
-ghost use Rattle.asm_source.specs.Plain.{role_of as role_of_name, word_text, distance_text, number_text, meaning_text, name_text, last_text, token_text, gap, closes as closes_offset, prepended, tokens_text, instruction_text};
+ghost use Rattle.asm_source.specs.Plain.{role_of as role_of_name, word_text, distance_text, name_text, last_text, token_text, gap, closes as closes_offset, prepended, tokens_text, instruction_text};
 
 use crate::fault::SourceFault;
 use crate::maps::index_of;

@@ -9,7 +9,7 @@ use Rattle.classic.specs.declared.fault.TranslateFault.{TranslateFault}
 use Rattle.classic.specs.declared.fault.TranslateFault.TheVariants as translate
 use Rattle.classic.specs.Layout.{block_slots, prologue_slots, IsInWindow}
 
--- the slots of a translation in which each instruction has a block
+-- the most slots that a translation may take: each instruction has a block, and each block is its longest
 abbrev pub most_slots : Data → List ClassicInsn → ℕ
 most_slots d program = prologue_slots + sum_by (block_slots d) program + 2
 

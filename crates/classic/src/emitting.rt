@@ -1,5 +1,5 @@
 //! The eBPF instructions that blocks are made of.
-ghost use Rattle.std.specs.Prelude.{◌≡◌, ◌+◌, ◌<◌, ◌≤◌, ◌^◌, ◌∷◌, [], ◌++◌, pos, OnOk};
+ghost use Rattle.std.specs.Prelude.{◌≡◌, ◌+◌, ◌<◌, ◌≤◌, ◌^◌, pos};
 ghost use Rattle.bpf_model.specs.declared.limits.TheConstants.{MAX_SLOTS};
 ghost use Rattle.bpf_model.specs.declared.insn.Insn.TheVariants as bpf;
 ghost use Rattle.bpf_model.specs.declared.insn.Operand.TheVariants as second;
@@ -7,7 +7,7 @@ ghost use Rattle.bpf_model.specs.declared.insn.AluOp.TheVariants as ops;
 ghost use Rattle.bpf_model.specs.declared.opcode.Size.TheVariants.{Word32, Word64};
 ghost use Rattle.bpf_model.specs.declared.insn.UnaryOp.TheVariants as unary;
 ghost use Rattle.bpf_model.specs.declared.opcode.ByteOrder.TheVariants as order;
-ghost use Rattle.classic.specs.Layout.{imm_of as imm_number, distance as distance_of, jump_to as jump_to_insn, jump_if as jump_if_insn, move as move_insn, put_number as put_number_insn, word_offset as word_offset_of, register_of, alu_of, condition_of, opposite_of, divides as divides_op, compared as compared_of, test_operand};
+ghost use Rattle.classic.specs.Layout.{distance as distance_of, jump_to as jump_to_insn, jump_if as jump_if_insn, move as move_insn, put_number as put_number_insn, word_offset as word_offset_of, register_of, alu_of, condition_of, opposite_of, divides as divides_op, compared as compared_of, test_operand};
 
 use crate::notes::{Accumulator, Note};
 use bpf_model::{AluOp, ByteOrder, Condition, Insn, Operand, Reg, Size, SwapWidth, UnaryOp, Width};

@@ -10,7 +10,7 @@ use thiserror::Error;
 /// counts them.
 #[derive(Clone, Copy, Debug, PartialEq, Eq, Drop, Error)]
 pub enum TranslateFault {
-    /// A load at a constant offset takes bytes past the 248 that a packet's context holds.
+    /// The constant offset of a load, alone or added to X, leads past the 248 bytes that a packet's context holds.
     #[error("instruction {0} loads past the 248 bytes of a packet's window")]
     OutsideWindow(usize),
     /// The translation takes more than `MAX_SLOTS` slots.

@@ -13,9 +13,8 @@ mod sound;
 mod translating;
 
 pub use classic_program::{
-    ClassicFault, ClassicInsn, ClassicOp, ClassicOperand, ClassicProgram, ClassicReg, ClassicTest,
-    Data, Datum, LoadSize, MemoryWord, PACKET_BYTES, PACKET_CONTEXT, ReadFault, SECCOMP_CONTEXT,
-    SockFilter, check, read_filter_array, read_listing,
+    ClassicFault, ClassicInsn, ClassicProgram, ClassicReg, Data, Datum, LoadSize, PACKET_BYTES,
+    PACKET_CONTEXT, ReadFault, SockFilter, check, read_filter_array, read_listing,
 };
 pub use fault::TranslateFault;
 pub use translating::translate;

@@ -1,9 +1,8 @@
 //! Whether notes say what holds.
 ghost use Rattle.std.specs.Prelude.{◌≡◌, ◌+◌, ◌<◌, ◌≤◌, true, length, slice_get, Some, IsTrue};
 ghost use Rattle.classic_program.specs.WellFormed.{most_instructions};
-ghost use Rattle.classic_program.specs.declared.insn.ClassicInsn.{ClassicInsn as Insn_};
 ghost use Rattle.classic.specs.declared.notes.Note.{Note as Note_};
-ghost use Rattle.classic.specs.Notes.{claims as claims_note, IsSoundAt, AreSound, start as start_note};
+ghost use Rattle.classic.specs.Notes.{claims as claims_note, IsSoundAt, AreSound};
 
 use crate::notes::{Note, claims, is_ready, left, start};
 use classic_program::{ClassicInsn, Data};

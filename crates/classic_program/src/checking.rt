@@ -2,9 +2,9 @@
 ghost use Rattle.std.specs.Prelude.{◌≡◌, ℕ, true, false, ◌+◌, ◌<◌, ◌≤◌, ◌⊎◌, List, length, slice_get, Some, IfSome, IfNone, IfOk, IfErr, IsTrue, OnOk};
 ghost use Rattle.classic_program.specs.declared.insn.ClassicInsn.{ClassicInsn as InsnOf};
 ghost use Rattle.classic_program.specs.declared.fault.ClassicFault.TheVariants.{Memory};
-ghost use Rattle.classic_program.specs.Faults.{IsFlawAt, IsSoundAt, IsUnstored, IsProgramFlaw, IsCheckFault};
+ghost use Rattle.classic_program.specs.Faults.{IsFlawAt, IsSoundAt, IsUnstored, IsCheckFault};
 ghost use Rattle.classic_program.specs.Opcode.{AreInsnsOf};
-ghost use Rattle.classic_program.specs.Paths.{AreMarks, IsSkip, stops_at};
+ghost use Rattle.classic_program.specs.Paths.{IsSkip};
 ghost use Rattle.classic_program.specs.WellFormed.{divides_by_zero as divides_by_0, shifts_too_far as shifts_far, is_datum_of as is_datum, is_of as is_insn_of, is_policy_remainder as is_remainder_of_policy, reads_from, stores_to, Reaches, LeadsInside, IsWellFormed, most_instructions};
 
 use crate::data::Data;
@@ -23,13 +23,10 @@ fn divides_by_zero(instruction: &ClassicInsn) -> bool
     ensures { result ≡ divides_by_0 instruction.now }
 {
     match instruction {
-        ClassicInsn::Alu { op, operand } => match operand {
-            ClassicOperand::Number(k) => match op {
-                ClassicOp::Div | ClassicOp::Mod => *k == 0,
-                _ => false,
-            },
-            ClassicOperand::Index => false,
-        },
+        ClassicInsn::Alu {
+            op: ClassicOp::Div | ClassicOp::Mod,
+            operand: ClassicOperand::Number(k),
+        } => *k == 0,
         _ => false,
     }
 }
@@ -38,13 +35,10 @@ fn shifts_too_far(instruction: &ClassicInsn) -> bool
     ensures { result ≡ shifts_far instruction.now }
 {
     match instruction {
-        ClassicInsn::Alu { op, operand } => match operand {
-            ClassicOperand::Number(k) => match op {
-                ClassicOp::ShiftLeft | ClassicOp::ShiftRight => *k >= 32,
-                _ => false,
-            },
-            ClassicOperand::Index => false,
-        },
+        ClassicInsn::Alu {
+            op: ClassicOp::ShiftLeft | ClassicOp::ShiftRight,
+            operand: ClassicOperand::Number(k),
+        } => *k >= 32,
         _ => false,
     }
 }
@@ -232,8 +226,8 @@ fn check_memory(alloc: Global, program: &[ClassicInsn]) -> Result<(), ClassicFau
 ///
 /// # Errors
 ///
-/// The length is tested first, then each opcode, then each instruction by itself, and then that no word of
-/// memory is read before it is written. `Memory` where memory runs out.
+/// The length is tested first, then each opcode with its word of memory, then each instruction by itself, and then
+/// that no word of memory is read before it is written. `Memory` where memory runs out.
 pub fn check(
     alloc: Global,
     filter: &[SockFilter],

@@ -1,11 +1,10 @@
 //! Classic instructions out of their structs.
-ghost use Rattle.std.specs.Prelude.{◌≡◌, ℕ, ◌<◌, ◌≤◌, Some, Ok, slice_get, IfOk, IfErr, IfSome, IfNone};
+ghost use Rattle.std.specs.Prelude.{◌≡◌, ℕ, ◌<◌, Some, Ok, slice_get, IfOk, IfErr, IfSome, IfNone};
 ghost use Rattle.classic_program.specs.declared.insn.ClassicInsn.{ClassicInsn as InsnOf};
 ghost use Rattle.classic_program.specs.declared.sock_filter.SockFilter.{SockFilter as FilterOf};
-ghost use Rattle.classic_program.specs.declared.opcode.ClassicOpcode.{ClassicOpcode as OpcodeOf};
-ghost use Rattle.classic_program.specs.Opcode.{insn_from as insn_of_opcode, operand_from, opcode_number, IsInsnOf, AreInsnsOf};
+ghost use Rattle.classic_program.specs.Opcode.{insn_from as insn_of_opcode, operand_from, IsInsnOf, AreInsnsOf};
 ghost use Rattle.classic_program.specs.Faults.{IsInsnFlaw, IsDecodeFault};
-ghost use Rattle.classic_program.specs.WellFormed.{FitsClassic, FitsOperand, most_instructions};
+ghost use Rattle.classic_program.specs.WellFormed.{FitsClassic, FitsOperand};
 
 use crate::fault::ClassicFault;
 use crate::insn::{ClassicInsn, ClassicOperand, ClassicReg, Datum, MemoryWord};

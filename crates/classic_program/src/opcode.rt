@@ -1,7 +1,7 @@
 //! Classic opcodes (Linux, *networking/filter.rst*; include/uapi/linux/bpf_common.h).
 ghost use Rattle.std.specs.Prelude.{◌≡◌, ◌%◌, ◌⊎◌, IfSome, Some};
 ghost use Rattle.classic_program.specs.declared.opcode.ClassicOpcode.{ClassicOpcode};
-ghost use Rattle.classic_program.specs.Opcode.{opcode_number, size_number, operation_number, test_number, source_number};
+ghost use Rattle.classic_program.specs.Opcode.{opcode_number};
 
 use crate::insn::{ClassicOp, ClassicReg, ClassicTest, LoadSize};
 
@@ -141,18 +141,11 @@ pub(crate) fn opcode_of(code: u16) -> Option<ClassicOpcode>
     ensures found { IfSome result (λ o. opcode_number o ≡ code) }
     ensures only { (o : ClassicOpcode) → opcode_number o ≡ code → result ≡ Some o }
 {
-    let class = code % 8;
-    if class == 0 {
-        return load_opcode(code);
+    match code % 8 {
+        0 => load_opcode(code),
+        1 => index_opcode(code),
+        4 => alu_opcode(code),
+        5 => jump_opcode(code),
+        _ => other_opcode(code),
     }
-    if class == 1 {
-        return index_opcode(code);
-    }
-    if class == 4 {
-        return alu_opcode(code);
-    }
-    if class == 5 {
-        return jump_opcode(code);
-    }
-    other_opcode(code)
 }

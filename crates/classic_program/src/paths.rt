@@ -43,7 +43,7 @@ fn stops(word: Option<u8>, instruction: &ClassicInsn) -> bool
     }
 }
 
-/// Marks so many behind.
+/// Marks the instructions that the skips lead to; a skip of 0 leads to the one of index `behind`.
 fn mark(marks: &mut [bool], behind: usize, skips: Skips)
     requires inside { (s : ℕ) → IsSkip skips s → behind + s < length marks.old }
     requires few { length marks.old ≤ most_instructions }

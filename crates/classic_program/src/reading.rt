@@ -1,5 +1,5 @@
 //! Classic programs as they are handed over.
-ghost use Rattle.std.specs.Prelude.{◌≡◌, ℕ, ◌≢◌, ◌%◌, ◌<◌, ◌≤◌, ◌^◌, ◌∷◌, ◌⊎◌, List, Some, length, IfOk, IfErr};
+ghost use Rattle.std.specs.Prelude.{◌≡◌, ◌≢◌, ◌%◌, ◌<◌, ◌≤◌, ◌∷◌, ◌⊎◌, List, Some, length, IfOk, IfErr};
 ghost use Rattle.classic_program.specs.declared.fault.ReadFault.TheVariants.{Memory, CutRecord};
 ghost use Rattle.classic_program.specs.declared.sock_filter.SockFilter.{SockFilter as FilterOf};
 ghost use Rattle.classic_program.specs.ReadFaults.{IsLinesFault, IsListingFault};
@@ -122,8 +122,9 @@ fn read_lines(alloc: Global, count: u64, lines: Option<&[u8]>) -> Result<Vec<Soc
 ///
 /// # Errors
 ///
-/// `BadCount` where the first line is not the number of the lines behind it, `BadLine` for the first that is no
-/// instruction, and `Memory` where memory runs out.
+/// `BadCount` where the first line is no number. Else `BadLine` for the first of so many lines that is no instruction;
+/// an empty one behind the last line feed counts, too. Else `BadCount` where there are more lines, or fewer. `Memory`
+/// where memory runs out.
 pub fn read_listing(alloc: Global, text: &str) -> Result<Vec<SockFilter>, ReadFault>
     ensures found { IfOk result (λ v. IsListing text.now v.items) }
     ensures only { (filters : List FilterOf) → IsListing text.now filters →

@@ -34,8 +34,8 @@ OfMapNamed names name f a = (map : Option ℕ) × IsMapOf names name map × (a �
 
 -- what each command asks of a world whose maps have these names
 abbrev pub IsAsked : List (List ℕ) → ScriptCommand → Asked → Type 0
-IsAsked names (commands.Map name shape) a = a ≡ asked.Sealed
-IsAsked names (commands.Load ctx_len code maps) a = a ≡ asked.Sealed
+IsAsked names (commands.Map name shape) a = a ≡ asked.TooLate
+IsAsked names (commands.Load ctx_len code maps) a = a ≡ asked.TooLate
 IsAsked names (commands.Put name key value flags) a = OfMapNamed names name (λ map.
     of_length key (λ k. of_length value (λ v. asked.Event (events.Update map k v flags)))) a
 IsAsked names (commands.Get name key) a = OfMapNamed names name (λ map.

@@ -12,7 +12,7 @@ use Rattle.script_lines.specs.declared.reply.Reply.TheVariants as replies
 use Rattle.script_lines.specs.ReplyText.{reply_text}
 use Rattle.control.specs.declared.refusal.LineRefusal.{LineRefusal}
 use Rattle.control.specs.declared.refusal.LineRefusal.TheVariants as refusals
-use Rattle.control.specs.Replies.{sealed_number}
+use Rattle.control.specs.Replies.{too_late_number}
 
 -- the number of a refusal
 abbrev pub line_refusal_number : LineRefusal → ℕ
@@ -21,7 +21,7 @@ line_refusal_number refusals.TooManyPrograms = world_fault_number faults.TooMany
 line_refusal_number (refusals.Decode fault) = decode_fault_number fault
 line_refusal_number (refusals.Program refusal) = refusal_number refusal
 line_refusal_number (refusals.Event refusal) = event_refusal_number refusal
-line_refusal_number refusals.Sealed = sealed_number
+line_refusal_number refusals.TooLate = too_late_number
 
 -- the slot of its program that a refusal is told of
 abbrev pub line_refusal_slot : LineRefusal → Option ℕ
@@ -30,7 +30,7 @@ line_refusal_slot refusals.TooManyPrograms = None
 line_refusal_slot (refusals.Decode fault) = decode_fault_slot fault
 line_refusal_slot (refusals.Program refusal) = refusal_slot refusal
 line_refusal_slot (refusals.Event refusal) = None
-line_refusal_slot refusals.Sealed = None
+line_refusal_slot refusals.TooLate = None
 
 -- the reply that tells a refusal
 abbrev pub refusal_reply : LineRefusal → Reply

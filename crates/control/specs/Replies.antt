@@ -43,13 +43,13 @@ AreElements v bound (replies.Element key value ∷ rest) =
 AreElements v bound (_ ∷ rest) = ⊥
 
 -- the number by which a map or a program is refused once there is a world
-abbrev pub sealed_number : ℕ
-sealed_number = 56
+abbrev pub too_late_number : ℕ
+too_late_number = 56
 
 -- What is replied, with the events that happen.
 abbrev pub Replies : WorldView → Asked → List Event → List Reply → WorldView → Type 0
-Replies w asked.Sealed es rs new =
-    (es ≡ []) × (rs ≡ refused sealed_number ∷ []) × (new ≡ w)
+Replies w asked.TooLate es rs new =
+    (es ≡ []) × (rs ≡ refused too_late_number ∷ []) × (new ≡ w)
 Replies w (asked.Refused refusal) es rs new =
     (es ≡ []) × (rs ≡ refused (event_refusal_number refusal) ∷ []) × (new ≡ w)
 Replies w (asked.Event event) es rs new =

@@ -13,7 +13,7 @@ use script_lines::{Bytes, ScriptCommand};
 #[derive(Drop)]
 pub enum Asked {
     /// The command makes a map or loads a program, which is too late.
-    Sealed,
+    TooLate,
     /// The command is refused whatever the world is.
     Refused(EventRefusal),
     /// An event.
@@ -90,7 +90,7 @@ pub fn ask(maps: &Registry, command: ScriptCommand<'_>) -> Asked
     ensures { IsAsked maps.now.names command.entry result }
 {
     match command {
-        ScriptCommand::Map { .. } | ScriptCommand::Load { .. } => Asked::Sealed,
+        ScriptCommand::Map { .. } | ScriptCommand::Load { .. } => Asked::TooLate,
         ScriptCommand::Put {
             map,
             key,

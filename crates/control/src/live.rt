@@ -48,7 +48,7 @@ impl Live {
     {
         self.world.is_world();
         match asked {
-            Asked::Sealed => write_refusal(LineRefusal::Sealed, out),
+            Asked::TooLate => write_refusal(LineRefusal::TooLate, out),
             Asked::Refused(refusal) => write_refusal(LineRefusal::Event(refusal), out),
             Asked::Event(event) => {
                 event.is_real();

@@ -23,11 +23,11 @@ pub enum LineRefusal {
     /// The event that a line asks for; or of a `load` the length of its context, or the name of a map.
     Event(EventRefusal),
     /// A `map` or a `load` once there is a world.
-    Sealed,
+    TooLate,
 }
 
-/// The number of a map's or a program's making once there is a world.
-const SEALED: u8 = 56;
+/// The number of the refusal of a map or a program once there is a world.
+const TOO_LATE: u8 = 56;
 
 impl LineRefusal {
     /// The number by which the refusal is known: that of what it holds, 54 for a program too many, or 56 once there is a world.
@@ -40,7 +40,7 @@ impl LineRefusal {
             LineRefusal::Decode(fault) => fault.code(),
             LineRefusal::Program(refusal) => refusal.code(),
             LineRefusal::Event(refusal) => refusal.code(),
-            LineRefusal::Sealed => SEALED,
+            LineRefusal::TooLate => TOO_LATE,
         }
     }
 
@@ -54,7 +54,7 @@ impl LineRefusal {
             LineRefusal::Map(_)
             | LineRefusal::TooManyPrograms
             | LineRefusal::Event(_)
-            | LineRefusal::Sealed => None,
+            | LineRefusal::TooLate => None,
         }
     }
 

@@ -1,5 +1,5 @@
 //! Replies that are added to a script's answers.
-ghost use Rattle.std.specs.Prelude.{◌≡◌, IfOk, OnErr};
+ghost use Rattle.std.specs.Prelude.{IfOk, OnErr};
 ghost use Rattle.script_lines.specs.ReplyText.{GoesOn};
 ghost use Rattle.control.specs.AnswerReplies.{reply_to};
 ghost use Rattle.control.specs.Refusals.{refusal_reply, map_reply, program_reply, IsNoRefusal, IsAdded};

@@ -1,5 +1,5 @@
 //! A script from a reader to a writer.
-ghost use Rattle.std.specs.Prelude.{◌≡◌, ℕ, List, OnOk, IfErr};
+ghost use Rattle.std.specs.Prelude.{ℕ, List, OnOk, IfErr};
 ghost use Rattle.std.specs.Io.KnownBytes.{Appends, Consumes, IsAtEnd};
 ghost use Rattle.script_stream.specs.Answered.{Answered, FailsWith, IsSoOfInput};
 ghost use Rattle.script_stream.specs.Lines.{lines_of};

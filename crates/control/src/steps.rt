@@ -6,8 +6,8 @@ ghost use Rattle.control.specs.Replies.{MakesSteps};
 use bpf_model::{Answer, Event, RunId};
 use world::World;
 
-/// Steps of a run: at most `count`, and at least one, up to the first that is not answered Moved. The answer
-/// of the last is put in the place of another one. All but the last are made as one stretch.
+/// Steps of a run: at most `count`, and at least one, up to the first that is not answered Moved. `answer` becomes
+/// that of the last, whatever it was. All but the last are made as one stretch.
 pub(crate) fn make_steps(world: &mut World, run: RunId, count: u64, answer: &mut Answer)
     ensures { (events : List Event)
         × MakesSteps world.old run count events answer.new world.new }

@@ -1,7 +1,7 @@
 //! Scripts line by line: what a line says, and how an answer is written.
 //!
 //! [`parse_line`] reads a line as a [`ScriptCommand`], and [`write_reply`] writes a [`Reply`]. `specs/Lines.antt` and
-//! `specs/Grammar.antt` have the forms of lines, `specs/Answers.antt` the texts of answers.
+//! `specs/Grammar.antt` have the forms of lines, `specs/ReplyText.antt` the texts of answers.
 #![tactic(auto)]
 
 mod bytes;

@@ -2,7 +2,7 @@
 //!
 //! Memory is bounded: a line is at most `LINE_BYTES` bytes without its line feed, and what is answered is
 //! written out before more is read. So a host that waits for an answer before it writes its next line has it,
-//! and lines that come in one read cost one write.
+//! and lines that come in one read cost one write, or more where their answers are long.
 #![tactic(auto)]
 
 mod fault;

@@ -7,16 +7,16 @@ use Rattle.control.specs.declared.asked.Asked.TheVariants as asked
 use Rattle.control.specs.AnswerReplies.{refused, reply_to}
 use Rattle.control.specs.declared.refusal.LineRefusal.TheVariants as refusals
 use Rattle.control.specs.Refusals.{refusal_reply}
-use Rattle.control.specs.Replies.{overlong_refusal, sealed_number}
+use Rattle.control.specs.Replies.{overlong_refusal, too_late_number}
 use Rattle.control.proofs.Elements.{elements_told}
 use Rattle.control.proofs.Happenings.{nothing, one_event, steps_happen, names_stay}
 use Rattle.control.proofs.Replied.{replied, replied_once}
 use Rattle.control.proofs.live.Live.answer_asked.Goals as goal
 
-pub returns-in-Sealed-clause-ok : goal.returns-in-Sealed-clause-ok
-returns-in-Sealed-clause-ok c =
-    replied_once c.args.self.now c.args.asked asked.Sealed [] (refusal_reply refusals.Sealed) (refused sealed_number)
-    c.args.self.now.world _ _ c.write_refusal.result c.in-Sealed.is (nothing c.args.self.now.world c.is_world.ensures) refl
+pub returns-in-TooLate-clause-ok : goal.returns-in-TooLate-clause-ok
+returns-in-TooLate-clause-ok c =
+    replied_once c.args.self.now c.args.asked asked.TooLate [] (refusal_reply refusals.TooLate) (refused too_late_number)
+    c.args.self.now.world _ _ c.write_refusal.result c.in-TooLate.is (nothing c.args.self.now.world c.is_world.ensures) refl
     (refl, refl, refl) c.write_refusal.ensures.ok
 
 pub returns-in-Refused-clause-ok : goal.returns-in-Refused-clause-ok
