@@ -30,7 +30,7 @@ pub use law::{
     running_stands, served_as_asked, update_may_succeed,
 };
 pub use outcome::{Ended, Halt, Walk};
-pub use regions::{SLOT_BASE, SPAN};
+pub use regions::{CTX_BASE, FRAME_BASE, MAP_BASE, SLOT_BASE, SPAN};
 pub use request::{Local, Next, Request};
 pub use run::Run;
 pub use walk::WalkEnd;

@@ -5,13 +5,13 @@
 pub const SPAN: u64 = 1 << 31;
 
 /// The word of the context's first byte.
-pub(crate) const CTX_BASE: u64 = 1 << 40;
+pub const CTX_BASE: u64 = 1 << 40;
 
 /// The word of the frame's first byte.
-pub(crate) const FRAME_BASE: u64 = 1 << 41;
+pub const FRAME_BASE: u64 = 1 << 41;
 
 /// The word of the first map.
-pub(crate) const MAP_BASE: u64 = 1 << 42;
+pub const MAP_BASE: u64 = 1 << 42;
 
 /// The word of the first byte of map slot 0 of map 0.
 pub const SLOT_BASE: u64 = 1 << 43;

@@ -2,7 +2,7 @@
 
 use crate::words::{frame_place, map_of, write_bytes, write_map};
 use bpf_model::{
-    CallKind, Helper, Insn, KEY_BYTES, KeyBytes, MapId, Reg, ResultKind, RunId, VALUE_BYTES,
+    CallKind, Errno, Helper, Insn, KEY_BYTES, KeyBytes, MapId, Reg, ResultKind, RunId, VALUE_BYTES,
     ValueBytes, array_of,
 };
 use machine::Run;
@@ -101,16 +101,21 @@ fn found<'a>(maps: &'a Registry, asked: &Asked) -> Option<&'a [u8]> {
     maps.map(asked.map)?.bytes_of(asked.key.as_slice())
 }
 
+/// The errors that a helper gives, and their names.
+const ERRORS: [(Errno, &str); 5] = [
+    (Errno::NoEntry, "ENOENT"),
+    (Errno::TooBig, "E2BIG"),
+    (Errno::NoMemory, "ENOMEM"),
+    (Errno::Exists, "EEXIST"),
+    (Errno::InvalidArgument, "EINVAL"),
+];
+
 /// The name of an error whose number, without its minus, this is.
 fn error_named(number: u64) -> Option<&'static str> {
-    match number {
-        2 => Some("ENOENT"),
-        7 => Some("E2BIG"),
-        12 => Some("ENOMEM"),
-        17 => Some("EEXIST"),
-        22 => Some("EINVAL"),
-        _ => None,
-    }
+    let row = ERRORS
+        .iter()
+        .find(|row| u64::from(row.0.number()) == number)?;
+    Some(row.1)
 }
 
 /// Writes what a helper has given run 0, as a number with its sign, and the name of an error.

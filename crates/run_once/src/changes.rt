@@ -1,6 +1,6 @@
 //! What a step has changed of its run.
 
-use crate::words::write_place;
+use crate::words::{write_bytes, write_place};
 use bpf_model::{FRAME_BYTES, REGISTERS, Reg};
 use machine::Run;
 use maps::Registry;
@@ -79,9 +79,8 @@ fn write_frame<W: Write>(out: &mut W, before: &Before, run: &Run) -> io::Result<
     };
     let place = FRAME_BYTES.saturating_sub(first);
     write!(out, "r10-{place}: ")?;
-    for byte in run.frame().iter().skip(first).take(count) {
-        write!(out, "{byte:02x}")?;
-    }
+    let changed = run.frame().get(first..first.saturating_add(count));
+    write_bytes(out, changed.unwrap_or(&[]))?;
     writeln!(out)
 }
 

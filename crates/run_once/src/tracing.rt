@@ -49,11 +49,11 @@ fn next_insn(world: &World, run: &Run) -> Option<Insn>
 
 /// The low bytes of a number that a store of this width keeps.
 fn kept(number: u64, width: Width) -> u64 {
-    match width.bytes() {
-        1 => number % (1 << 8),
-        2 => number % (1 << 16),
-        4 => number % (1 << 32),
-        _ => number,
+    match width {
+        Width::One => number % (1 << 8),
+        Width::Two => number % (1 << 16),
+        Width::Four => number % (1 << 32),
+        Width::Eight => number,
     }
 }
 

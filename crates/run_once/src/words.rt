@@ -1,17 +1,17 @@
 //! The words of registers, as numbers or as places in memory.
 
 use bpf_model::{FRAME_BYTES, MAX_ENTRIES, MAX_SPARE, MapId, NEAR_LIMIT};
-use machine::{SLOT_BASE, SPAN};
+use machine::{CTX_BASE, FRAME_BASE, MAP_BASE, SLOT_BASE, SPAN};
 use maps::Registry;
 use std::io;
 use std::io::Write;
 
 /// The numbers of the regions of the context, the frame, all maps and the first map slot.
-const CONTEXT: u64 = 1 << 9;
+const CONTEXT: u64 = CTX_BASE / SPAN;
 
-const FRAME: u64 = 1 << 10;
+const FRAME: u64 = FRAME_BASE / SPAN;
 
-const MAPS: u64 = 1 << 11;
+const MAPS: u64 = MAP_BASE / SPAN;
 
 const SLOTS: u64 = SLOT_BASE / SPAN;
 

@@ -16,6 +16,5 @@ mod waiting;
 pub use graph::{falls, judge};
 pub use graph_flaw::{GraphFlaw, GraphRefusal};
 pub use refusal::ProgramRefusal;
-pub use register_kinds::{AbsState, InsnFault};
-pub use state_steps::Region;
+pub use register_kinds::AbsState;
 pub use verified::{Refused, Verified, verify, verify_or_return};

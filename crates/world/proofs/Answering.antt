@@ -1,5 +1,5 @@
 -- What a world answers is its reaction, to one event and to a list of events: the clauses of the laws at these values.
-use Rattle.bpf_model.proofs.Prelude.{◌≡◌, List, [], ◌∷◌, sym, subst, AnswersAsScheduled, AreScheduledAnswers, IsReal, AreReal, AnswersAsMachine}
+use Rattle.bpf_model.proofs.Prelude.{◌≡◌, ◌∙◌, List, [], ◌∷◌, sym, ap, subst, AnswersAsScheduled, AreScheduledAnswers, IsReal, AreReal, AnswersAsMachine}
 use Rattle.bpf_model.proofs.Prelude.{AreMachineAnswers, AreNeverStuck, AllExitInTime, AreReclaimedLate, TracksSchedule, Tracks, WorldView}
 use Rattle.model_laws.proofs.Prelude.{Event, Answer}
 use Rattle.world_laws.proofs.Prelude.{full_reaction, full_reactions, IsWorld}
@@ -15,6 +15,10 @@ pub record Reacts (w : WorldView) (event : Event) (answer : Answer) (new : World
 
 pub reacts-at : {v w : WorldView} {event : Event} {answer : Answer} {new : WorldView} → v ≡ w → Reacts v event answer new → Reacts w event answer new
 reacts-at {event = event} {answer = answer} {new = new} e r = subst (λ (w : WorldView). Reacts w event answer new) e r
+
+pub reacts : {v w new : WorldView} {event : Event} {answer : Answer} → v ≡ w → IsWorld v → IsReal event → answer ≡ (full_reaction v event).0
+    → new ≡ (full_reaction v event).1 → Reacts w event answer new
+reacts e is real h g = reacts-at e (record { is = is; real = real; answer_is = h; new_is = g })
 
 pub stays_world : {w new : WorldView} {event : Event} {answer : Answer} → Reacts w event answer new → IsWorld new
 stays_world {w} {event = event} r = subst IsWorld (sym r.new_is) (reaction_is_world w event r.is r.real)
@@ -49,6 +53,16 @@ pub record AllReact (w : WorldView) (events : List Event) (answers : List Answer
   pub real : AreReal events
   pub answers_are : answers ≡ (full_reactions w events).0
   pub new_is : new ≡ (full_reactions w events).1
+
+-- of a list all of which was taken
+pub all_react : {w new : WorldView} {taken events : List Event} {answers : List Answer} → IsWorld w → AreReal events →
+    answers ≡ (full_reactions w taken).0 → new ≡ (full_reactions w taken).1 → taken ≡ events → AllReact w events answers new
+all_react {w} is real h g whole = record {
+  is = is;
+  real = real;
+  answers_are = h ∙ ap (λ (xs : List Event). (full_reactions w xs).0) whole;
+  new_is = g ∙ ap (λ (xs : List Event). (full_reactions w xs).1) whole;
+}
 
 pub all_scheduled : {w new : WorldView} {events : List Event} {answers : List Answer} → AllReact w events answers new
     → AreScheduledAnswers TracksSchedule w events answers new

@@ -47,9 +47,9 @@ impl World {
     /// Answers one event as the machine does, and puts the answer in the place of another one. It takes no
     /// memory and cannot fail; an event that is refused changes nothing.
     ///
-    /// An answer has room for a value, so that a new one costs more than most events. In a place that is lent
-    /// again and again, an event writes no more than what its answer has, where the answer before was of the
-    /// same kind; else the place is cleared once.
+    /// An answer has room for a value, so that a new one costs more than most events. So lend the same place again
+    /// and again. Where the answer before was of the same kind, an event writes only what its answer has. Else, and
+    /// for a start, the whole place is written.
     pub fn apply_into(&mut self, event: &Event, answer: &mut Answer)
         ensures answer { answer.new ≡ (full_reaction self.old event.now).0 }
         ensures new { self.new ≡ (full_reaction self.old event.now).1 }

@@ -21,8 +21,8 @@ impl World {
     ///
     /// Errors: the first of these that holds. Then nothing has changed, and the program is dropped.
     /// - `TooManyPrograms`: there are `MAX_PROGRAMS`.
-    /// - `Binding`, with the number that the program would have had: its list of maps is not one of the shapes that
-    ///   it was verified for.
+    /// - `Binding`, with the number that the program would have had: a map of its list is missing or has another
+    ///   shape than it was verified for, or the counts differ.
     /// - `Memory`: there is none for one program more.
     pub fn load(&mut self, loaded: Loaded) -> Result<ProgId, WorldFault>
         ensures too_many { MAX_PROGRAMS ≤ length self.old.programs →

@@ -43,8 +43,8 @@ impl World {
     /// Runs a program on a context from its start to its exit and its drop, with nothing between its steps: the exit value. It
     /// takes no memory.
     ///
-    /// Errors: why the start is refused. (A run that had not ended behind `MAX_SLOTS` steps would keep its run slot, and the
-    /// error would be `StillRunning`. None is known.)
+    /// Errors: why the start is refused. The clauses also allow `StillRunning`, for a run that has not ended after
+    /// `MAX_SLOTS` steps. No run does that: each exits in time (`exits` of `apply`).
     pub fn run_through(&mut self, prog: ProgId, ctx: &CtxBytes) -> Result<u64, EventRefusal>
         ensures through { IfOk result (λ value. RunsThrough self.old prog ctx.now.items value self.new) }
         ensures refused { (why : Refusal_) → (full_reaction self.old (Start prog ctx.now)).0 ≡ RefusedAnswer why →

@@ -46,8 +46,8 @@ impl World {
     ///
     /// Errors: the first of these that holds.
     /// - `TooManyPrograms`: there are more than `MAX_PROGRAMS`.
-    /// - `Binding`: with the first program whose list of maps is not one of the shapes that it was verified
-    ///   for: a map is missing, has another shape, or the counts differ.
+    /// - `Binding`, with the first program that is not bound to maps of the shapes that it was verified for: a map is missing,
+    ///   has another shape, or the counts differ.
     /// - `Memory`: there is none for the runs.
     pub fn new(alloc: Global, registry: Registry, loaded: Vec<Loaded>) -> Result<World, WorldFault>
         requires new_maps { AreNewMaps registry.maps }

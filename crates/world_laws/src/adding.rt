@@ -3,7 +3,7 @@
 //!
 //! Each is a function with an empty body, whose contract is the law.
 
-ghost use Rattle.std.specs.Prelude.{ℕ, List, [], ◌∷◌, ◌++◌, ◌<◌, length};
+ghost use Rattle.std.specs.Prelude.{List, [], ◌∷◌, ◌++◌, ◌<◌, length};
 ghost use Rattle.bpf_model.specs.declared.limits.MapShape.{MapShape};
 ghost use Rattle.bpf_model.specs.declared.limits.TheConstants.{MAX_PROGRAMS};
 ghost use Rattle.bpf_model.specs.Machine.{Loaded, Machine};

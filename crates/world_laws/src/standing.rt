@@ -1,3 +1,5 @@
+//! Laws of runs, and of the words for which they stand, whatever maps surround them.
+//!
 //! Each is a function with an empty body, whose contract is the law.
 ghost use Rattle.std.specs.Prelude.{◌≡◌, ℕ, List, length, map, Some};
 ghost use Rattle.bpf_model.specs.declared.insn.Insn.{Insn};

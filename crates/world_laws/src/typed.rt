@@ -44,7 +44,7 @@ fn number(imm: i32)
 }
 
 /// A law: each instruction names registers that there are, and numbers that its fields can hold.
-pub fn insn_is_real(insn: &Insn)
+fn insn_is_real(insn: &Insn)
     ensures { FitsInsn insn.now }
 {
     match insn {

@@ -2,7 +2,7 @@ use Rattle.bpf_model.proofs.Prelude.{◌≡◌, ◌≤◌, ◌+◌, ◌++◌, �
 use Rattle.model_laws.proofs.Prelude.{Event, Answer}
 use Rattle.world_laws.proofs.Prelude.{full_reaction, full_reactions}
 use Rattle.world_laws.proofs.Appending.{answers_grow, view_grows}
-use Rattle.world.proofs.Answering.{AllReact, all_scheduled, all_machine, all_never_stuck, all_exit, all_reclaimed}
+use Rattle.world.proofs.Answering.{all_react, all_scheduled, all_machine, all_never_stuck, all_exit, all_reclaimed}
 use Rattle.world.proofs.world.World.run_all.Goals as goal
 
 pub loop-event-preserved : goal.loop-event-preserved
@@ -30,70 +30,25 @@ loop-event-preserved c =
 
 pub returns-clause-schedule : goal.returns-clause-schedule
 returns-clause-schedule c =
-    let whole = take_all c.loop-event.event-index c.args.events.now c.loop-event-test.false in
-    let r : AllReact c.args.self.now c.args.events.now c.loop-event.answers.items c.loop-event.self =
-    record {
-      is = c.is_world.ensures;
-      real = c.are_real.ensures;
-      answers_are = c.loop-event.invariant.answers ∙
-          ap (λ (xs : List Event). (full_reactions c.args.self.now xs).0) whole;
-      new_is = c.loop-event.invariant.view ∙
-          ap (λ (xs : List Event). (full_reactions c.args.self.now xs).1) whole;
-    } in
-    all_scheduled r
+    all_scheduled (all_react c.is_world.ensures c.are_real.ensures c.loop-event.invariant.answers c.loop-event.invariant.view
+    (take_all c.loop-event.event-index c.args.events.now c.loop-event-test.false))
 
 pub returns-clause-answers : goal.returns-clause-answers
 returns-clause-answers c =
-    let whole = take_all c.loop-event.event-index c.args.events.now c.loop-event-test.false in
-    let r : AllReact c.args.self.now c.args.events.now c.loop-event.answers.items c.loop-event.self =
-    record {
-      is = c.is_world.ensures;
-      real = c.are_real.ensures;
-      answers_are = c.loop-event.invariant.answers ∙
-          ap (λ (xs : List Event). (full_reactions c.args.self.now xs).0) whole;
-      new_is = c.loop-event.invariant.view ∙
-          ap (λ (xs : List Event). (full_reactions c.args.self.now xs).1) whole;
-    } in
-    all_machine r
+    all_machine (all_react c.is_world.ensures c.are_real.ensures c.loop-event.invariant.answers c.loop-event.invariant.view
+    (take_all c.loop-event.event-index c.args.events.now c.loop-event-test.false))
 
 pub returns-clause-never_stuck : goal.returns-clause-never_stuck
 returns-clause-never_stuck c =
-    let whole = take_all c.loop-event.event-index c.args.events.now c.loop-event-test.false in
-    let r : AllReact c.args.self.now c.args.events.now c.loop-event.answers.items c.loop-event.self =
-    record {
-      is = c.is_world.ensures;
-      real = c.are_real.ensures;
-      answers_are = c.loop-event.invariant.answers ∙
-          ap (λ (xs : List Event). (full_reactions c.args.self.now xs).0) whole;
-      new_is = c.loop-event.invariant.view ∙
-          ap (λ (xs : List Event). (full_reactions c.args.self.now xs).1) whole;
-    } in
-    all_never_stuck r
+    all_never_stuck (all_react c.is_world.ensures c.are_real.ensures c.loop-event.invariant.answers c.loop-event.invariant.view
+    (take_all c.loop-event.event-index c.args.events.now c.loop-event-test.false))
 
 pub returns-clause-exits : goal.returns-clause-exits
 returns-clause-exits c =
-    let whole = take_all c.loop-event.event-index c.args.events.now c.loop-event-test.false in
-    let r : AllReact c.args.self.now c.args.events.now c.loop-event.answers.items c.loop-event.self =
-    record {
-      is = c.is_world.ensures;
-      real = c.are_real.ensures;
-      answers_are = c.loop-event.invariant.answers ∙
-          ap (λ (xs : List Event). (full_reactions c.args.self.now xs).0) whole;
-      new_is = c.loop-event.invariant.view ∙
-          ap (λ (xs : List Event). (full_reactions c.args.self.now xs).1) whole;
-    } in
-    all_exit r
+    all_exit (all_react c.is_world.ensures c.are_real.ensures c.loop-event.invariant.answers c.loop-event.invariant.view
+    (take_all c.loop-event.event-index c.args.events.now c.loop-event-test.false))
 
 pub returns-clause-reclaimed : goal.returns-clause-reclaimed
 returns-clause-reclaimed c =
-    let whole = take_all c.loop-event.event-index c.args.events.now c.loop-event-test.false in
-    let r : AllReact c.args.self.now c.args.events.now c.loop-event.answers.items c.loop-event.self =
-    record {
-      is = c.is_world.ensures;
-      real = c.are_real.ensures;
-      answers_are = c.loop-event.invariant.answers ∙
-          ap (λ (xs : List Event). (full_reactions c.args.self.now xs).0) whole;
-      new_is = c.loop-event.invariant.view ∙
-          ap (λ (xs : List Event). (full_reactions c.args.self.now xs).1) whole;
-    } in
-    all_reclaimed r
+    all_reclaimed (all_react c.is_world.ensures c.are_real.ensures c.loop-event.invariant.answers c.loop-event.invariant.view
+    (take_all c.loop-event.event-index c.args.events.now c.loop-event-test.false))
