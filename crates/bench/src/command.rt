@@ -57,8 +57,8 @@ pub enum WorldCommand<'a> {
     Answers,
     /// Print how long each thing of a subject takes.
     Times(Subject),
-    /// Go through so many rounds of the activity of this name, and no more, so that a tool which counts
-    /// instructions can count them; print what its events were answered.
+    /// Do what has this name so many times, and no more, so that a tool which counts instructions can count it: an
+    /// activity, the dump of a map, or a crew of one worker. Print its answers, bytes or calls.
     Repeat { activity: &'a str, times: u32 },
 }
 

@@ -1,5 +1,5 @@
--- The numbers of helpers, kernel functions and errors (Linux BPF documentation, "eBPF helpers" and
--- "BPF Kernel Functions"; bpf(2); the BTF numbers are this runtime's own).
+-- The numbers of helpers, kernel functions and errors (bpf-helpers(7); bpf(2); Linux BPF
+-- documentation, "BPF Kernel Functions"; the BTF numbers are this runtime's own).
 use Rattle.std.specs.Prelude.{ℕ, ◌-◌, ◌^◌, ℤ, pos, Option, Some, None, Result, Ok, Err}
 use Rattle.std.specs.Prelude.{if◌then◌else◌}
 use Rattle.std.specs.Ordering.{int_eq}

@@ -12,9 +12,8 @@ AreBytes bytes = (k b : ℕ) → slice_get bytes k ≡ Some b → b < 2 ^ 8
 abbrev pub AllBytes : List Element → Type 0
 AllBytes es = (n : ℕ) (e : Element) → slice_get es n ≡ Some e → AreBytes e.value
 
--- An event's numbers and bytes are within their types (of lengths nothing is asked): in a
--- definition a byte would else be any number. Each value of the Rust type is so
--- (`Event::is_real`).
+-- An event's numbers and bytes are within their types; of lengths nothing is asked. Each value of
+-- the Rust type is so (`Event::is_real`).
 abbrev pub IsReal : Event → Type 0
 IsReal (events.Start prog ctx) = (prog < 2 ^ 64) × AreBytes ctx.items
 IsReal (events.Step run) = run < 2 ^ 64

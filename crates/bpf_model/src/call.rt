@@ -19,7 +19,7 @@ pub enum ArgumentKind {
     AnyNumber,
 }
 
-/// What a helper leaves in r0: a reference to an element's value or 0, or 0 or the number of an error.
+/// What a helper leaves in r0: a reference to an element's value, or 0; or 0, or an error as a negative number.
 #[derive(Clone, Copy, Debug, PartialEq, Eq)]
 pub enum ResultKind {
     ElementOrNull,

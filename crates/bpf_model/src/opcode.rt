@@ -83,7 +83,7 @@ pub enum SwapWidth {
     Eight,
 }
 
-/// The opcodes of the conformance groups packet and atomic, which this runtime leaves out.
+/// The opcodes of the conformance groups packet, atomic32 and atomic64, which this runtime leaves out.
 #[derive(Clone, Copy, Debug, PartialEq, Eq)]
 pub enum Excluded {
     AbsoluteWord,

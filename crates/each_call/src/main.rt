@@ -1,7 +1,8 @@
-//! Makes each of the library's calls that take memory, and prints a line for each: `NAME done`. Where the call was refused
-//! memory, all is found as it was before, the call is made once more, and the line is `NAME 13 done`. A shared world shows
-//! what is under its lock only at its end, so there is also one that ends at the refused call. It is run with each growth of
-//! memory refused in turn (checks/memory_agree).
+//! Makes calls that take memory, on programs, maps, worlds and a shared world, and prints a line for each: `NAME done`. Where
+//! a call was refused memory it is made once more, and the line is `NAME 13 done`. Before that, what the call may change is
+//! found as it was; only `run_jobs` may have served some jobs. A shared world shows what is under its lock only at its end,
+//! so there is also one that ends at the refused call. It is run with each growth of memory refused in turn
+//! (checks/memory_agree).
 #![tactic(auto)]
 
 mod again;

@@ -179,12 +179,15 @@ fn call_helper(
 }
 
 /// A call: of a helper by its number, with arguments by its signature, or of a kernel function.
-/// Afterwards r1 to r5 hold nothing, and r0 what the function gives. `shapes` are those of the maps
-/// of the program's list; of identities a lookup takes one.
+/// Afterwards r1 to r5 hold nothing, and r0 what a helper gives; a lock or an unlock leaves nothing
+/// in r0. `shapes` are those of the maps of the program's list; of identities a lookup takes one.
 ///
-/// Errors: `UnknownCall`; then `UnpairedSection`, or `OutsideSection` of a lookup, unless r1 is an
-/// array of the list; then those of the arguments, from r1 on, each first as a register that is read, then `WrongArgument`,
-/// `NoSuchMap` of a map, `OutOfBounds` and its bytes. The state is then as it was.
+/// Errors, in this order; the state is then as it was.
+/// - `UnknownCall`.
+/// - `UnpairedSection` of a lock or an unlock; `OutsideSection` of a lookup, unless r1 is an array of
+///   the list.
+/// - Those of the arguments, from r1 on: each as a register that is read, then `WrongArgument`. Then
+///   of a map `NoSuchMap`; of a key or a value `OutOfBounds`, then those of its bytes.
 pub fn call(
     state: &mut AbsState,
     kind: CallKind,

@@ -42,7 +42,7 @@ pub fn jump_transfers()
         → Transfers (Insn.Jump offset) shapes ctx_len a a None }
 {}
 
-/// A jump of class JMP32 leaves all that is known as it is.
+/// The unconditional jump of class JMP32 leaves all that is known as it is.
 pub fn jump_long_transfers()
     ensures { (imm : ℤ) (shapes : List MapShape) (ctx_len : ℕ) (a : model.AbsState)
         → Transfers (Insn.JumpLong imm) shapes ctx_len a a None }

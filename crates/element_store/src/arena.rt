@@ -4,8 +4,7 @@ ghost use Rattle.std.specs.Prelude.{slice_index, None, Some, IfSome, IfNone, IfO
 ghost use Rattle.std.specs.Prelude.{if◌then◌else◌};
 ghost use Rattle.std.specs.Ordering.{nat_cmp};
 ghost use Rattle.std.specs.Cmp.Lexicographic.{slice_cmp};
-ghost use Rattle.bpf_model.specs.Access.{byte_count, number_at};
-ghost use Rattle.bpf_model.specs.Access.{with_bytes};
+ghost use Rattle.bpf_model.specs.Access.{byte_count, number_at, with_bytes};
 ghost use Rattle.bpf_model.specs.declared.event.Given.TheVariants as given;
 ghost use Rattle.bpf_model.specs.declared.limits.TheConstants.{KEY_BYTES, VALUE_BYTES};
 ghost use Rattle.element_store.specs.State.{IsTaken, generation_at, given_back, is_last_use, key_at};

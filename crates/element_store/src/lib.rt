@@ -3,7 +3,8 @@
 //! Each slot has a key, a value, a count of uses, a link and a generation. Everything is allocated when an
 //! arena is made. Keys and values lie in two arrays of bytes, each slot's at its own multiple of their
 //! length, so they are compared, read and written where they lie. The free slots are threaded through the
-//! links, which a taken slot leaves to its user; so are those of the unlinked elements.
+//! links. The link of a taken slot is its user's: an index threads its chains through it, and `DeferredSlots` its
+//! lists.
 //!
 //! `block` and the functions beside it serve any array of byte strings of one length.
 #![tactic(auto)]

@@ -52,7 +52,7 @@ pub record IsChain (a : ArenaState) (first : Option ℕ) : Type 0 where
   pub thread : IsThread (link_at a.links) first (chain_of a first)
   pub taken : (j : ℕ) → 0 < times_in j (chain_of a first) → IsTaken a j
 
--- the last slot before another
+-- in this chain `last` stands directly before `slot`
 pub record IsBefore (chain : List ℕ) (last slot : ℕ) : Type 0 where
   pub front : List ℕ
   pub back : List ℕ

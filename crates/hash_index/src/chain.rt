@@ -1,5 +1,5 @@
 //! Chains of slots, by the links that stand in them.
-ghost use Rattle.std.specs.Prelude.{◌≡◌, ◌≢◌, ◌<◌, ◌≤◌, Some, OnOk, ◌++◌, ℕ, List, length, option_copied, IfSome, ◌∷◌, []};
+ghost use Rattle.std.specs.Prelude.{◌≡◌, ◌<◌, ◌≤◌, Some, OnOk, ◌++◌, ℕ, List, length, option_copied, IfSome, ◌∷◌, []};
 ghost use Rattle.element_store.specs.State.{key_at, times_in, slot_of};
 ghost use Rattle.hash_index.specs.Order.{IsLeastOf};
 ghost use Rattle.element_store.specs.Threads.{chain_of};

@@ -60,7 +60,8 @@ fn filled_word(bytes: &[u8]) -> u64
     ])
 }
 
-/// Goes on from a hash with a word. The high half is folded into the low one, which tells the bucket.
+/// Goes on from a hash with a word. The high half is folded into the low one, so that the low half depends on the
+/// whole word.
 #[inline]
 fn mix(hash: u64, word: u64) -> u64
     ensures { result ≡ mixed_hash hash word }

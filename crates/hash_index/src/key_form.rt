@@ -1,5 +1,5 @@
-//! Keys by their length: of one word, of half a word, of any length. Keys of one word are compared as
-//! numbers, without a call.
+//! Keys by their length: of one word, of half a word, of any length. Keys of one word and of half a word are
+//! compared as numbers, without a call.
 ghost use Rattle.std.specs.Prelude.{◌≡◌, ◌<◌, ⊤, ℕ, List, length};
 ghost use Rattle.std.specs.Ordering.{nat_cmp, eq_by_cmp};
 ghost use Rattle.std.specs.Cmp.Lexicographic.{slice_cmp};

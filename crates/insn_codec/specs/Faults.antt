@@ -134,7 +134,7 @@ abbrev pub IsOpcode : ℕ → Option Opcode → Type 0
 IsOpcode byte None = (o : Opcode) → opcode_byte o ≢ byte
 IsOpcode byte (Some o) = opcode_byte o ≡ byte
 
--- the opcodes of the groups packet and atomic, which this runtime leaves out (section 2.4)
+-- the opcodes of the groups packet, atomic32 and atomic64, which this runtime leaves out (section 2.4)
 abbrev pub is_excluded : Opcode → Bool
 is_excluded (Excluded excluded) = true
 is_excluded _ = false

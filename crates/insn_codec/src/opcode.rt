@@ -75,7 +75,7 @@ fn with_operands(byte: u8) -> Option<Opcode>
     }
 }
 
-/// The opcode of a byte. The packet and atomic groups are excluded.
+/// The opcode of a byte. The groups packet, atomic32 and atomic64 are excluded.
 pub fn opcode_from(byte: u8) -> Option<Opcode>
     ensures found { IfSome result (λ o. opcode_byte o ≡ byte) }
     ensures only { (o : OpcodeOf) → opcode_byte o ≡ byte → result ≡ Some o }

@@ -16,7 +16,7 @@ use bpf_model::{
     SwapWidth, UnaryOp,
 };
 
-/// Whether the opcode is of the groups packet and atomic.
+/// Whether the opcode is of the groups packet, atomic32 and atomic64.
 fn is_excluded(opcode: Opcode) -> bool
     ensures { result ≡ is_excluded_opcode opcode }
 {

@@ -1,8 +1,8 @@
 //! The maps of a world, hash maps and arrays: elements by key, each in a map slot.
 //!
 //! The elements that a hash map unlinks are reclaimed after a grace period; those of an array stay.
-//! `MapTable` is what both kinds answer and do. `HashMap` stands on any index and any lists of unlinked slots;
-//! `Map` is the one that the runtime takes, of either kind.
+//! `MapTable` is what both kinds answer and do. `HashMap` stands on any index. `Map` is the one that the runtime
+//! takes, of either kind.
 #![tactic(auto)]
 
 mod admission;

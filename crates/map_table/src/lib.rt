@@ -21,7 +21,7 @@ pub use moving::Room;
 pub use seats::Seats;
 pub use table::{MapTable, ReadSeat};
 pub use table_words::{
-    BUCKET_WAYS, Closes, Deals, Law, Learns, Loads, MAX_BUCKETS, MAX_ELEMENTS, MAX_READERS,
-    MAX_WORDS, Opens, Puts, SECTION_STRIDE, Scans, Secret, Stores, TableShape, Values, View,
+    BUCKET_WAYS, Law, MAX_BUCKETS, MAX_ELEMENTS, MAX_READERS, MAX_WORDS, Secret, TableShape,
+    Values, View,
 };
 pub use writer::Writer;

@@ -1,5 +1,5 @@
 //! How the writer finds an element that can go to the other bucket of its key.
-ghost use Rattle.std.specs.Prelude.{◌≡◌, ◌≢◌, ◌⊎◌, ℕ, ◌+◌, ◌<◌, ◌≤◌, ◌^◌, List, ◌++◌, IfSome, IsNone, length, slice_index};
+ghost use Rattle.std.specs.Prelude.{◌≡◌, ◌≢◌, ℕ, ◌+◌, ◌<◌, ◌≤◌, ◌^◌, List, ◌++◌, IfSome, IsNone, length, slice_index};
 ghost use Rattle.table_words.specs.declared.moves.Move.{Move};
 ghost use Rattle.table_words.specs.Layout.{Names, bucket_ways, candidate_ways};
 ghost use Rattle.table_words.specs.History.{word_in, key_of, IsSettled, MayDouble};

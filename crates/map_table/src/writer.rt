@@ -4,7 +4,7 @@ ghost use Rattle.std.specs.List.{range_with_len};
 ghost use Rattle.table_words.specs.declared.moves.Move.{Move};
 ghost use Rattle.table_words.specs.declared.moves.Move.TheVariants.{Put};
 ghost use Rattle.table_words.specs.Layout.{IsCandidate, Names};
-ghost use Rattle.table_words.specs.History.{word_in, IsSettled, IsSpare, MayDouble};
+ghost use Rattle.table_words.specs.History.{word_in, IsSettled, MayDouble};
 ghost use Rattle.table_words.specs.Lookups.{OnlySearches};
 ghost use Rattle.table_words.specs.Found.{IsLinkedUnder, IsLinkedAs};
 ghost use Rattle.table_words.specs.Moved.{OnlyMoves};

@@ -56,7 +56,7 @@ pub record IsConsistent (m : Machine) : Type 0 where
       HasLengths m.store.maps e
   pub arrays : (n : ℕ) (e : Element) → slice_get m.store.elements n ≡ Some e →
       StaysLinked m.store.maps e
-  -- no two runs have one name
+  -- a run's name is the number of a start that has been, and no two runs have one name
   pub named : (r : ℕ) (run : Run) → run_at m.runs r ≡ Some run → run.name < m.started
   pub apart : (q r : ℕ) (a b : Run) → run_at m.runs q ≡ Some a → run_at m.runs r ≡ Some b →
       a.name ≡ b.name → q ≡ r

@@ -6,7 +6,7 @@
 
 mod views;
 
-ghost use Rattle.std.specs.Prelude.{◌≡◌, ℕ, ◌+◌, ◌<◌, ◌≤◌, ◌^◌, pos, false, List, [], ◌++◌, ◌∷◌, length, slice_get, Option, Some, None, ◌↔◌, ◌⊎◌, ◌≢◌, Result, Ok, Err};
+ghost use Rattle.std.specs.Prelude.{◌≡◌, ℕ, ◌+◌, ◌<◌, ◌≤◌, ◌^◌, pos, false, List, [], ◌++◌, ◌∷◌, length, slice_get, Option, Some, None, ◌↔◌, ◌≢◌, Result, Ok, Err};
 ghost use Rattle.std.specs.List.{sum_by};
 ghost use Rattle.bpf_model.specs.declared.call.Errno.{Errno};
 ghost use Rattle.bpf_model.specs.declared.call.Errno.TheVariants.{NoMemory};
@@ -45,7 +45,6 @@ ghost use Rattle.bpf_model.specs.declared.call.Helper.{Helper};
 ghost use Rattle.bpf_model.specs.declared.value.Value.{Value};
 ghost use Rattle.bpf_model.specs.Request.{Argument, Request, signature_of, asks, Calls};
 ghost use Rattle.model_laws.specs.Replies.{IsOfKind};
-ghost use Rattle.bpf_model.specs.MachineStep.{StepsAlone, StepsServed};
 ghost use Rattle.model_laws.specs.Alone.{SharesNothing};
 ghost use Rattle.model_laws.specs.Growth.{ElementsGrow};
 ghost use Rattle.model_laws.specs.Scheduled.{IsScheduled, IsReapable};
@@ -101,7 +100,7 @@ pub fn lookup_is_plain()
     ensures { IsPlainWithMaps lookup_and_load (example_shape ∷ []) }
 {}
 
-/// The machine with no run and nothing in its maps is consistent.
+/// The machine at its start, with no run and new maps of shapes within limits, is consistent.
 pub fn starts_consistent()
     ensures { (shapes : List MapShape) (programs : List Loaded) → AreShapes shapes →
         IsConsistent (start_machine shapes programs) }
@@ -251,8 +250,8 @@ pub fn no_memory_when_full()
         × (m.shape.kind ≡ MapKind.Hash → IsFull k s.machine.store.elements m → ret ≢ Ok tt) }
 {}
 
-/// In each state that is reached from the start no more elements were born in a map than its map slots
-/// can bear, of which each is used at most as often as the map's shape says.
+/// In each state that is reached from the start, where the reuse limit of a map is not 0, no more elements
+/// were born in it than its map slots can bear: each is used at most as often as the map's shape says.
 pub fn births_bounded()
     ensures { (shapes : List MapShape) (programs : List Loaded) (s : Schedule) (k : ℕ)
         (m : MapState) →

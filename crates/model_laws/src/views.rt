@@ -127,7 +127,7 @@ pub fn move_simulates()
         Simulates s (Event.Step r) (answer, with_run r (Some new) w) }
 {}
 
-/// A run's step that opens a section is a step of the schedule.
+/// A run's lock, outermost or nested, is a step of the schedule.
 pub fn lock_simulates()
     ensures { (w : WorldView) (s : Schedule) → Matches w s →
         (r : ℕ) (run : Run) (old : RunView) (imm : ℤ) → run_at s.machine.runs r ≡ Some run →
@@ -137,7 +137,7 @@ pub fn lock_simulates()
         Simulates s (Event.Step r) (Answer.Moved, with_run r (Some (locked_view old)) w) }
 {}
 
-/// A run's step that ends its section is a step of the schedule.
+/// A run's unlock, outermost or nested, is a step of the schedule.
 pub fn unlock_simulates()
     ensures { (w : WorldView) (s : Schedule) → Matches w s →
         (r : ℕ) (run : Run) (old : RunView) (imm : ℤ) → run_at s.machine.runs r ≡ Some run →

@@ -278,12 +278,12 @@ pub fn tracked_exits_in_time()
         → AllExitInTime Tracks w events answers }
 {}
 
-/// In a well machine the offsets of all references that runs have, in registers and in their frames, are near.
+/// In a well machine the offsets of all references that unfinished runs have, in registers and in their frames, are near.
 pub fn well_is_near()
     ensures { (m : Machine) → IsWell m → IsNearMachine m }
 {}
 
-/// All references of runs are near in each state of a history of what a world tracks.
+/// All references of unfinished runs are near in each state of a history of what a world tracks.
 pub fn tracked_is_near()
     ensures { (w : WorldView) (events : List Event) (answers : List Answer)
         → AreVerified (shapes_of w) w.programs → AreReal events → (m : Machine) → Tracks w m
@@ -337,7 +337,7 @@ pub fn one_exit()
         → n ≡ k }
 {}
 
-/// A program without map references exits, where it may, so whatever other actors do.
+/// A program without map references that may exit does so whatever other actors do.
 pub fn exits_alone()
     ensures { (shapes : List MapShape) (program : Loaded) (context : List ℕ) (s n : ℕ) →
         HasNoMaps program.code → MayExitWith shapes program context s n →

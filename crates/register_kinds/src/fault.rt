@@ -11,7 +11,7 @@ pub enum InsnFault {
     UnwrittenRegister,
     #[error("the frame pointer is written")]
     FramePointerWritten,
-    #[error("a pointer or a map is used as a number")]
+    #[error("a pointer or a map as a number, or an offset that may be too far, or one in the frame that is not known as one number")]
     PointerArithmetic,
     #[error("a memory access through a number or a map")]
     NotAPointer,
@@ -21,13 +21,13 @@ pub enum InsnFault {
     Misaligned,
     #[error("a byte of the frame is read that is not written on every path")]
     UnwrittenFrame,
-    #[error("a pointer or a map is stored to an element, stored or read in part, or returned")]
+    #[error("a pointer or a map is stored to an element, stored or read in part, part of a call's key or value, or returned")]
     PointerLeak,
     #[error("a register or a byte of the frame is read that holds different kinds on different paths")]
     MixedRegions,
     #[error("what a lookup gave is used before it is compared with null")]
     MaybeNull,
-    #[error("a reference to an element of a hash map is used outside its section, or a hash map is looked up outside a section")]
+    #[error("an element of a hash map is reached outside its section, or a lookup is made outside a section and r1 is no array")]
     OutsideSection,
     #[error("a lock where 8 are open, an unlock outside a section, an exit inside one, or paths that differ in depth")]
     UnpairedSection,

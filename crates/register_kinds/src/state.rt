@@ -75,8 +75,9 @@ impl AbsState {
         boxes.filled(self)
     }
 
-    /// What is known where control comes from either state, with as many locks open in both. Each pair of different identities that meets gets one new identity, so a join takes at
-    /// most `MAX_PAIRS`.
+    /// What is known where control comes from either state, with as many locks open in both. Each
+    /// pair of different identities that meets gets one new identity, so a join takes at most
+    /// `MAX_PAIRS`.
     #[inline(never)]
     pub fn join(&mut self, other: &AbsState, ids: &mut Identities)
         requires section { self.old.depth ≡ other.now.depth }

@@ -55,8 +55,8 @@ pub record KeepsUnaryFloor (op : UnaryOp) (a result : Scalar) : Type 0 where
   pub narrow : result.greatest < 2 ^ result_bits op
 
 -- What remains of both sides of a comparison, on one of its edges, is at least this narrow. By a
--- constant the unsigned orders and equality move the bounds, where a number of the other side goes
--- along the edge; where none does, none is left. Where it differs from a constant, that is no bound.
+-- constant the unsigned orders and equality move the left side's bounds, where some number of that
+-- side goes along the edge. Where some number differs from a constant, the constant is no bound.
 pub record KeepsEdgeFloor (size : Size) (c : Condition) (taken : Bool) (a b left right : Scalar)
     : Type 0 where
   pub no_wider_left : IsNoWider left a

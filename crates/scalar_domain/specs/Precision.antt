@@ -25,7 +25,7 @@ pub record Masks (k : ℕ) (result : Scalar) : Type 0 where
   pub greatest : result.greatest ≤ k
   pub zeros : Within result.may k
 
--- A shift to the left: where no one is lost, the shifted bounds; the low bits are 0.
+-- A shift to the left: where no 1 is shifted out, the shifted bounds; the low bits are 0.
 pub record ShiftsLeft (k : ℕ) (a result : Scalar) : Type 0 where
   pub least : a.greatest * 2 ^ k < 2 ^ 64 → a.least * 2 ^ k ≤ result.least
   pub greatest : a.greatest * 2 ^ k < 2 ^ 64 → result.greatest ≤ a.greatest * 2 ^ k

@@ -25,7 +25,7 @@ impl Scalar {
     }
 }
 
-/// What an operation can give, on 64 bits or on the low 32, where both operands are not constants.
+/// What an operation can give, on 64 bits or on the low 32, where not both operands are constants.
 #[inline(never)]
 fn apply_sets(size: Size, op: AluOp, a: Scalar, b: Scalar) -> Scalar
     ensures sound { (x y : ℕ) → x < 2 ^ 64 → y < 2 ^ 64 → Holds a x → Holds b y

@@ -52,6 +52,9 @@ fn numbers(rt: &HostRuntime) -> Result<(u32, u32)> {
     let mut words = env::args(rt)?.skip(1);
     let rounds = number(words.next())?;
     let calls = number(words.next())?;
+    if words.next().is_some() {
+        bail!("usage: soak ROUNDS CALLS");
+    }
     Ok((rounds, calls))
 }
 

@@ -29,7 +29,7 @@ pub(crate) fn jump_step() -> Flow
     single(Region::None)
 }
 
-/// A jump of class JMP32.
+/// The unconditional jump of class JMP32, whose distance stands in imm.
 pub(crate) fn jump_long_step() -> Flow
     ensures { (imm : ℤ) (shapes : List MapShape) (ctx_len top : ℕ) (a : StateHere)
         → AreBelow top a → Stepped (Insn.JumpLong imm) shapes ctx_len top a a (Ok result) }

@@ -142,11 +142,13 @@ fn count_crews<S: Measured, R: Threads + Clock + CpuClock + Sync>(
     Ok(())
 }
 
-/// At which places of `crews` stand one reader alone, four of one table, and four that have a table each.
+/// The place of one reader alone among the crews of `count_task`.
 pub const ALONE: usize = 0;
 
+/// The place of four readers of one table.
 pub const FOUR: usize = 2;
 
+/// The place of four readers with a table each.
 pub const FOUR_APART: usize = 3;
 
 /// The crews whose calls of a task are counted.

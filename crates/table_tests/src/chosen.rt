@@ -47,8 +47,8 @@ fn six(number: u64) -> [u64; 6] {
     ]
 }
 
-/// Two words whose highest five bits are all there are, for a number below 1,024. Of each 32 in which these are so much
-/// apart a multiplying hash makes one.
+/// Two words for a number below 1,024. The first has the number's upper five bits on top. The second has the lower five on
+/// top, and once more from bit 27 on. A multiplying hash gives many of these keys one value.
 fn two(number: u64) -> [u64; 2] {
     let high = number / 32 % 32;
     let low = number % 32;

@@ -1,5 +1,4 @@
 //! Two jobs that wait for one another.
-ghost use Rattle.std.specs.Prelude.{◌≡◌};
 
 use job_queue::{PoolFault, Serve, serve_all};
 use std::alloc::{AllocError, Global};

@@ -1,5 +1,5 @@
 //! Several maps in one table, each under a name.
-ghost use Rattle.std.specs.Prelude.{◌≡◌, ◌<◌, ◌≤◌, All, length};
+ghost use Rattle.std.specs.Prelude.{◌≡◌, ◌<◌, All, length};
 ghost use Rattle.map_table.specs.Held.{IsReady};
 
 use crate::map_table_runs::{COUNT, WORDS, context_of, verified_with};

@@ -1,5 +1,5 @@
 //! What the definitions exclude, and a history that they don't.
-ghost use Rattle.std.specs.Prelude.{◌≡◌, ◌≢◌, ℕ, ◌%◌, ◌<◌, ◌≤◌, List, [], ◌∷◌, ◌++◌, None};
+ghost use Rattle.std.specs.Prelude.{◌≡◌, ◌≢◌, ℕ, ◌%◌, ◌<◌, ◌≤◌, List, ◌∷◌, ◌++◌, None};
 ghost use Rattle.table_words.specs.declared.moves.Move.{Move};
 ghost use Rattle.table_words.specs.declared.moves.Move.TheVariants.{Store, Put, Double, Scan};
 ghost use Rattle.table_words.specs.Layout.{Layout, IsCandidate, Names};

@@ -1,5 +1,5 @@
 //! SipHash-1-3 of words, by which a table's keys are spread.
-ghost use Rattle.std.specs.Prelude.{◌≡◌, fold};
+ghost use Rattle.std.specs.Prelude.{◌≡◌};
 ghost use Rattle.table_words.specs.Sip.{begun, rounded, absorbed, finished, sip_hash};
 
 use std::fmt;

@@ -11,7 +11,7 @@ use std::thread::Threads;
 use std::time::{Duration, Instant};
 use worker_pool::{Job, run_jobs};
 
-/// How many jobs a batch has. Each is a lookup: a start, 12 steps, its exit value and its drop.
+/// How many jobs a batch has. Each is a lookup: a start, eleven moves, the exit and the drop.
 pub const JOBS: u32 = 2000;
 
 /// A batch of jobs, each of program 0 on an empty context.

@@ -66,7 +66,7 @@ const LOOKUPS: Pool = Pool {
     entries: &[],
 };
 
-/// Of three jobs of four events, the third finds no entry left for its drop or its steps, and is stopped.
+/// Of three jobs of four events, the third starts and moves, finds no entry left for its exit, and is stopped.
 const FILLED: Pool = Pool {
     rounds: 1,
     workers: 1,

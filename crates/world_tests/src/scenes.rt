@@ -165,8 +165,9 @@ const EMPTIED: Scene = Scene {
     entries: &[ADVANCED, "None"],
 };
 
-/// Many steps of one run under one lock: program 1, on a key that is there, exits at its 12th step. A journal of 20 entries
-/// has 15 for this run, and of another one later its start and two moves. Between them another run makes its one move.
+/// Many steps of one run under one lock: program 1, on a key that is there, exits at its 12th step. Of 20 entries the update
+/// takes one, and this run 14. Another run takes two, its start and its one move. A later run takes the last three: its start
+/// and two moves.
 const STRETCHED: Scene = Scene {
     limit: Some(20),
     rows: &[

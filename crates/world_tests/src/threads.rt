@@ -114,7 +114,7 @@ fn are_answers(alloc: Global, journal: &Journal, answers: &[Answer]) -> Result<b
     Ok(answers.len() == journal.len())
 }
 
-/// Whether the base answers the journal's events as the journal says, and is then as the world.
+/// Whether the base answers the journal's events as the journal says, and has then the world's counts.
 fn replays(alloc: Global, finished: &mut Finished) -> Result<bool, AllocError> {
     let events = events_in(alloc, &finished.journal)?;
     let answers = finished.base.run_all(alloc, &events)?;
